@@ -1,0 +1,4 @@
+pub mod Reading
+pub mod Keys
+pub mod Lines
+pub mod Seen
