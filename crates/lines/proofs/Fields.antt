@@ -85,7 +85,7 @@ named-sound (l ∷ ks) text k e = go (sameBytes text (name l)) refl e (named-sou
     go false t e ih = ih e
 
 -- the word before a value
-worded : (k : Key) (v : List ℕ) → (name k ++ codes "=") ++ v ≡ name k ++ (61 ∷ v)
+pub worded : (k : Key) (v : List ℕ) → (name k ++ codes "=") ++ v ≡ name k ++ (61 ∷ v)
 worded k v = append-assoc (name k) (codes "=") v
 
 -- a line that is written is the next one

@@ -1,3 +1,4 @@
 pub mod Finds
 pub mod Splits
 pub mod Fields
+pub mod Laws

@@ -1,6 +1,6 @@
 -- The lines of a job.
 use mathlib.Core.List.{List, [], _∷_, _++_}
-use mathlib.Core.Bool.{cond}
+use mathlib.Core.Bool.{Bool, cond}
 use Prim.Native.Nat.{ℕ, _+_}
 use lib.Chars.{codes}
 use lib.Dec.{eqb}
@@ -18,7 +18,7 @@ use Rattle.lines.specs.declared.key.Key.the-variants as keyed
 use Rattle.lines.specs.declared.key.Line.{Line}
 use Rattle.lines.specs.declared.key.Line.the-variants as lined
 use Rattle.lines.specs.Keys.{name, named}
-use Rattle.lines.specs.Reading.{State, at, Reading, then, cut}
+use Rattle.lines.specs.Reading.{State, at, Reading, then, cut, starts}
 
 abbrev pub key-of : Line → Key
 key-of (lined.Side v) = keyed.Side
@@ -102,3 +102,11 @@ entry k value s = then (field k s) (λ q. then (value (q .0 .0) (q .0 .1)) (λ a
 -- a value that has its form, or is refused for it
 abbrev pub form : {A : Type 0} → (List ℕ → Option A) → List ℕ → ℕ → Result A Fault
 form read v n = judged (read v) n
+
+-- whether the next line begins with the key and =
+abbrev pub is-next : Key → State → Bool
+is-next k s = starts (name k ++ codes "=") (s .rest)
+
+-- one of two readings, by the key that stands next
+abbrev pub either : {A : Type 0} → Key → Reading A → Reading A → Reading A
+either k p q s = cond (is-next k s) (p s) (q s)

@@ -1,6 +1,6 @@
 -- How a text is read, line by line: a fault stops it.
 use mathlib.Core.List.{List, [], _∷_, _++_}
-use mathlib.Core.Bool.{cond}
+use mathlib.Core.Bool.{Bool, true, false, cond, _&&_}
 use Prim.Native.Nat.{ℕ, zero, suc, _+_}
 use lib.Dec.{eqb, leb}
 use lib.ListN.{length}
@@ -49,6 +49,19 @@ times (suc n) p = do
   more ← times n p
   done (a ∷ more)
 
+-- one thing after another, each by its place
+abbrev pub each : {A : Type 0} → (ℕ → Reading A) → ℕ → ℕ → Reading (List A)
+each p i zero = done []
+each p i (suc k) = do
+  a ← p i
+  more ← each p (suc i) k
+  done (a ∷ more)
+
+-- what holds of each member of a list by its place, the first at i
+abbrev pub From : {A : Type 0} → (ℕ → A → Type 0) → ℕ → List A → Type 0
+From G i [] = Unit {0}
+From G i (x ∷ xs) = G i x × From G (suc i) xs
+
 -- a list that was begun already
 abbrev pub onto : {A : Type 0} → List A → Result (List A × State) Fault → Result (List A × State) Fault
 onto xs r = then r (λ q. Ok (xs ++ q .0, q .1))
@@ -61,6 +74,12 @@ ahead x (Some (l, r)) = Some (x ∷ l, r)
 abbrev pub cut : ℕ → List ℕ → Option (List ℕ × List ℕ)
 cut b [] = None
 cut b (x ∷ xs) = cond (eqb x b) (Some ([], xs)) (ahead x (cut b xs))
+
+-- whether a text begins with a word
+abbrev pub starts : List ℕ → List ℕ → Bool
+starts [] xs = true
+starts (p ∷ ps) [] = false
+starts (p ∷ ps) (x ∷ xs) = eqb x p && starts ps xs
 
 -- how many bytes stand before the first b, or all of them
 abbrev pub before : ℕ → List ℕ → ℕ
