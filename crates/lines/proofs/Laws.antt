@@ -19,7 +19,7 @@ use Rattle.numbers.specs.Numbers.{judged}
 use Rattle.lines.specs.declared.key.Key.{Key}
 use Rattle.lines.specs.declared.reader.Reader.{Reader}
 use Rattle.lines.specs.Keys.{name}
-use Rattle.lines.specs.Reading.{then, State, at, Reading, done, _>>=_, times, each, onto, From, starts}
+use Rattle.lines.specs.Reading.{then, State, at, Reading, done, _>>=_, times, walk, Along, onto, starts}
 use Rattle.lines.specs.Lines.{field, entry, form, line, either, is-next}
 use Rattle.lines.specs.Seen.{seen, gave}
 use Rattle.lines.proofs.Splits.{Clear, some-same}
@@ -235,64 +235,65 @@ either-reads {A} key p q w G K h k yes′ no′ = record { sound = λ s a t e. s
     complete a r n (inl g) = let x = h .complete a r n g in (x .0, cond-true (starts (name key ++ codes "=") (w a ++ r)) _ _ (yes′ a r g) ∙ x .1)
     complete a r n (inr g) = let x = k .complete a r n g in (x .0, cond-false (starts (name key ++ codes "=") (w a ++ r)) _ _ (no′ a r g) ∙ x .1)
 
--- one thing after another, each by its place
-pub each-reads : {A : Type 0} (p : ℕ → Reading A) (w : A → List ℕ) (G : ℕ → A → Type 0) → ((i : ℕ) → Reads (p i) w (G i)) → (k i : ℕ) → Reads (each p i k) (joined w) (λ xs. (length xs ≡ k) × From G i xs)
-each-reads {A} p w G h zero i = record { sound = sound; complete = complete }
+-- one thing after another, each where the ones before it have led
+pub walk-reads : {P A : Type 0} (p : P → Reading A) (step : P → A → P) (w : A → List ℕ) (G : P → A → Type 0) → ((i : P) → Reads (p i) w (G i)) → (k : ℕ) (i : P) → Reads (walk p step i k) (joined w) (λ xs. (length xs ≡ k) × Along G step i xs)
+walk-reads {P} {A} p step w G h zero i = record { sound = sound; complete = complete }
   where
-    sound : (s : State) (xs : List A) (t : State) → done [] s ≡ Ok (xs, t) → ((length xs ≡ 0) × From G i xs) × (s .rest ≡ joined w xs ++ t .rest)
+    sound : (s : State) (xs : List A) (t : State) → done [] s ≡ Ok (xs, t) → ((length xs ≡ 0) × Along G step i xs) × (s .rest ≡ joined w xs ++ t .rest)
     sound s xs t e =
         let q = ok-same e in
-        subst (λ ys. ((length ys ≡ 0) × From G i ys) × (s .rest ≡ joined w ys ++ t .rest)) (ap (λ p. p .0) q) ((refl, tt), ap (λ p. p .1 .rest) q)
-    complete : (xs : List A) (r : List ℕ) (n : ℕ) → (length xs ≡ 0) × From G i xs → (m : ℕ) × (done [] (at (joined w xs ++ r) n) ≡ Ok (xs, at r m))
+        subst (λ ys. ((length ys ≡ 0) × Along G step i ys) × (s .rest ≡ joined w ys ++ t .rest)) (ap (λ p. p .0) q) ((refl, tt), ap (λ p. p .1 .rest) q)
+    complete : (xs : List A) (r : List ℕ) (n : ℕ) → (length xs ≡ 0) × Along G step i xs → (m : ℕ) × (done [] (at (joined w xs ++ r) n) ≡ Ok (xs, at r m))
     complete [] r n g = (n, refl)
     complete (x ∷ xs) r n g = absurd (omega (arith, g .0))
-each-reads {A} p w G h (suc k) i = record { sound = sound (each-reads p w G h k (suc i)); complete = complete (each-reads p w G h k (suc i)) }
+walk-reads {P} {A} p step w G h (suc k) i = record { sound = sound (λ j. walk-reads p step w G h k j); complete = complete (λ j. walk-reads p step w G h k j) }
   where
-    sound : Reads (each p (suc i) k) (joined w) (λ xs. (length xs ≡ k) × From G (suc i) xs) → (s : State) (xs : List A) (t : State) → each p i (suc k) s ≡ Ok (xs, t) → ((length xs ≡ suc k) × From G i xs) × (s .rest ≡ joined w xs ++ t .rest)
+    sound : ((j : P) → Reads (walk p step j k) (joined w) (λ xs. (length xs ≡ k) × Along G step j xs)) → (s : State) (xs : List A) (t : State) → walk p step i (suc k) s ≡ Ok (xs, t) → ((length xs ≡ suc k) × Along G step i xs) × (s .rest ≡ joined w xs ++ t .rest)
     sound ih s xs t e =
         let f = then-ok (p i s) _ _ e in
-        let g = then-ok (each p (suc i) k (f .0 .1)) _ _ (f .2) in
+        let g = then-ok (walk p step (step i (f .0 .0)) k (f .0 .1)) _ _ (f .2) in
         let q = ok-same (g .2) in
         let a = h i .sound s (f .0 .0) (f .0 .1) (f .1) in
-        let b = ih .sound (f .0 .1) (g .0 .0) (g .0 .1) (g .1) in
-        subst (λ ys. ((length ys ≡ suc k) × From G i ys) × (s .rest ≡ joined w ys ++ t .rest)) (ap (λ p. p .0) q)
+        let b = ih (step i (f .0 .0)) .sound (f .0 .1) (g .0 .0) (g .0 .1) (g .1) in
+        subst (λ ys. ((length ys ≡ suc k) × Along G step i ys) × (s .rest ≡ joined w ys ++ t .rest)) (ap (λ p. p .0) q)
         ( (ap suc (b .0 .0), (a .0, b .0 .1))
         , a .1 ∙ (ap (λ x. w (f .0 .0) ++ x) (b .1 ∙ ap (λ p. joined w (g .0 .0) ++ p .1 .rest) q) ∙ sym (append-assoc (w (f .0 .0)) (joined w (g .0 .0)) (t .rest))) )
-    complete : Reads (each p (suc i) k) (joined w) (λ xs. (length xs ≡ k) × From G (suc i) xs) → (xs : List A) (r : List ℕ) (n : ℕ) → (length xs ≡ suc k) × From G i xs → (m : ℕ) × (each p i (suc k) (at (joined w xs ++ r) n) ≡ Ok (xs, at r m))
+    complete : ((j : P) → Reads (walk p step j k) (joined w) (λ xs. (length xs ≡ k) × Along G step j xs)) → (xs : List A) (r : List ℕ) (n : ℕ) → (length xs ≡ suc k) × Along G step i xs → (m : ℕ) × (walk p step i (suc k) (at (joined w xs ++ r) n) ≡ Ok (xs, at r m))
     complete ih [] r n g = absurd (omega (arith, g .0))
     complete ih (x ∷ xs) r n g =
         let a = h i .complete x (joined w xs ++ r) n (g .1 .0) in
         let l : length xs ≡ k = omega (arith, g .0) in
-        let b = ih .complete xs r (a .0) (l, g .1 .1) in
+        let b = ih (step i x) .complete xs r (a .0) (l, g .1 .1) in
         ( b .0
-        , ap (λ y. each p i (suc k) (at y n)) (append-assoc (w x) (joined w xs) r)
+        , ap (λ y. walk p step i (suc k) (at y n)) (append-assoc (w x) (joined w xs) r)
           ∙ (then-run _ _ _ (a .1) ∙ then-run _ _ _ (b .1)) )
 
-pub counted-each : {A : Type 0} (count : Reading ℕ) (v : ℕ → List ℕ) (Few : ℕ → Type 0) → Reads count v Few → (p : ℕ → ℕ → Reading A) (w : A → List ℕ) (G : ℕ → ℕ → A → Type 0) → ((n i : ℕ) → Reads (p n i) w (G n i)) → Reads (_>>=_ count (λ n. each (p n) 0 n)) (λ xs. v (length xs) ++ joined w xs) (λ xs. Few (length xs) × From (G (length xs)) 0 xs)
-counted-each count v Few c p w G h = record
+-- a number of things, and then that many of them, each where the ones before it have led
+pub counted-walk : {P A : Type 0} (count : Reading ℕ) (v : ℕ → List ℕ) (Few : ℕ → Type 0) → Reads count v Few → (p : ℕ → P → Reading A) (step : P → A → P) (i : P) (w : A → List ℕ) (G : ℕ → P → A → Type 0) → ((n : ℕ) (j : P) → Reads (p n j) w (G n j)) → Reads (_>>=_ count (λ n. walk (p n) step i n)) (λ xs. v (length xs) ++ joined w xs) (λ xs. Few (length xs) × Along (G (length xs)) step i xs)
+counted-walk count v Few c p step i w G h = record
   { sound = λ s xs t e.
       let f = then-ok (count s) _ _ e in
       let a = c .sound s (f .0 .0) (f .0 .1) (f .1) in
-      let b = each-reads (p (f .0 .0)) w (G (f .0 .0)) (h (f .0 .0)) (f .0 .0) 0 .sound (f .0 .1) xs t (f .2) in
-      ( (subst Few (sym (b .0 .0)) (a .0), subst (λ k. From (G k) 0 xs) (sym (b .0 .0)) (b .0 .1))
+      let b = walk-reads (p (f .0 .0)) step w (G (f .0 .0)) (h (f .0 .0)) (f .0 .0) i .sound (f .0 .1) xs t (f .2) in
+      ( (subst Few (sym (b .0 .0)) (a .0), subst (λ k. Along (G k) step i xs) (sym (b .0 .0)) (b .0 .1))
       , a .1 ∙ ((ap (λ k. v k ++ f .0 .1 .rest) (sym (b .0 .0)) ∙ ap (λ y. v (length xs) ++ y) (b .1)) ∙ sym (append-assoc (v (length xs)) (joined w xs) (t .rest))) )
   ; complete = λ xs r n g.
       let a = c .complete (length xs) (joined w xs ++ r) n (g .0) in
-      let b = each-reads (p (length xs)) w (G (length xs)) (h (length xs)) (length xs) 0 .complete xs r (a .0) (refl, g .1) in
+      let b = walk-reads (p (length xs)) step w (G (length xs)) (h (length xs)) (length xs) i .complete xs r (a .0) (refl, g .1) in
       ( b .0
-      , ap (λ y. _>>=_ count (λ k. each (p k) 0 k) (at y n)) (append-assoc (v (length xs)) (joined w xs) r)
+      , ap (λ y. _>>=_ count (λ k. walk (p k) step i k) (at y n)) (append-assoc (v (length xs)) (joined w xs) r)
         ∙ (then-run _ _ _ (a .1) ∙ b .1) ) }
 
--- the turns of a loop that reads by place
-pub each-none : {A : Type 0} (xs : List A) (p : ℕ → Reading A) (i : ℕ) (s : State) → onto xs (each p i zero s) ≡ Ok (xs, s)
-each-none xs p i s = ap (λ ys. Ok (ys, s)) (append-nil xs)
+-- the turns of a loop that goes on where it has been led
+pub walk-none : {P A : Type 0} (xs : List A) (p : P → Reading A) (step : P → A → P) (i : P) (s : State) → onto xs (walk p step i zero s) ≡ Ok (xs, s)
+walk-none xs p step i s = ap (λ ys. Ok (ys, s)) (append-nil xs)
 
-pub each-more : {A : Type 0} (xs : List A) (k i : ℕ) (p : ℕ → Reading A) (s : State) (a : A) (t : State) → Ok (a, t) ≡ p i s → onto xs (each p i (suc k) s) ≡ onto (xs ++ (a ∷ [])) (each p (suc i) k t)
-each-more {A} xs k i p s a t e = ap (λ r. onto xs (then r (λ q. then (each p (suc i) k (q .1)) (λ z. Ok (q .0 ∷ z .0, z .1))))) (sym e) ∙ more (each p (suc i) k t)
+pub walk-more : {P A : Type 0} (xs : List A) (k : ℕ) (p : P → Reading A) (step : P → A → P) (i : P) (s : State) (a : A) (t : State) → Ok (a, t) ≡ p i s → onto xs (walk p step i (suc k) s) ≡ onto (xs ++ (a ∷ [])) (walk p step (step i a) k t)
+walk-more {P} {A} xs k p step i s a t e = ap (λ r. onto xs (then r (λ q. then (walk p step (step i (q .0)) k (q .1)) (λ z. Ok (q .0 ∷ z .0, z .1))))) (sym e) ∙ more (walk p step (step i a) k t)
   where
     more : (r : Result (List A × State) Fault) → onto xs (then r (λ z. Ok (a ∷ z .0, z .1))) ≡ onto (xs ++ (a ∷ [])) r
     more (Ok q) = ap (λ ys. Ok (ys, q .1)) (sym (append-assoc xs (a ∷ []) (q .0)))
     more (Err d) = refl
 
-pub each-stops : {A : Type 0} (xs : List A) (k i : ℕ) (p : ℕ → Reading A) (s : State) (d : Fault) → Err d ≡ p i s → onto xs (each p i (suc k) s) ≡ Err d
-each-stops xs k i p s d e = ap (λ r. onto xs (then r (λ q. then (each p (suc i) k (q .1)) (λ z. Ok (q .0 ∷ z .0, z .1))))) (sym e)
+pub walk-stops : {P A : Type 0} (xs : List A) (k : ℕ) (p : P → Reading A) (step : P → A → P) (i : P) (s : State) (d : Fault) → Err d ≡ p i s → onto xs (walk p step i (suc k) s) ≡ Err d
+walk-stops xs k p step i s d e = ap (λ r. onto xs (then r (λ q. then (walk p step (step i (q .0)) k (q .1)) (λ z. Ok (q .0 ∷ z .0, z .1))))) (sym e)

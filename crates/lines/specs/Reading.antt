@@ -49,18 +49,23 @@ times (suc n) p = do
   more ← times n p
   done (a ∷ more)
 
--- one thing after another, each by its place
-abbrev pub each : {A : Type 0} → (ℕ → Reading A) → ℕ → ℕ → Reading (List A)
-each p i zero = done []
-each p i (suc k) = do
+-- one thing after another, each where the ones before it have led
+abbrev pub walk : {P A : Type 0} → (P → Reading A) → (P → A → P) → P → ℕ → Reading (List A)
+walk p step i zero = done []
+walk p step i (suc k) = do
   a ← p i
-  more ← each p (suc i) k
+  more ← walk p step (step i a) k
   done (a ∷ more)
 
--- what holds of each member of a list by its place, the first at i
-abbrev pub From : {A : Type 0} → (ℕ → A → Type 0) → ℕ → List A → Type 0
-From G i [] = Unit {0}
-From G i (x ∷ xs) = G i x × From G (suc i) xs
+-- what holds of each member of a list, where the ones before it have led
+abbrev pub Along : {P A : Type 0} → (P → A → Type 0) → (P → A → P) → P → List A → Type 0
+Along G step i [] = Unit {0}
+Along G step i (x ∷ xs) = G i x × Along G step (step i x) xs
+
+-- where a list leads
+abbrev pub led : {P A : Type 0} → (P → A → P) → P → List A → P
+led step i [] = i
+led step i (x ∷ xs) = led step (step i x) xs
 
 -- a list that was begun already
 abbrev pub onto : {A : Type 0} → List A → Result (List A × State) Fault → Result (List A × State) Fault

@@ -19,3 +19,10 @@ impl Side {
         }
     }
 }
+
+// Who moves, as our side sees it.
+#[derive(Clone, Copy, PartialEq, Eq, Debug)]
+pub enum Mover {
+    Ours,
+    Theirs,
+}
