@@ -2,3 +2,4 @@ pub mod Finds
 pub mod Splits
 pub mod Fields
 pub mod Laws
+pub mod Commas
