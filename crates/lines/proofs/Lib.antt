@@ -3,3 +3,4 @@ pub mod Splits
 pub mod Fields
 pub mod Laws
 pub mod Counts
+pub mod Commas
