@@ -1,0 +1,9 @@
+pub mod Search
+pub mod Grid
+pub mod Meet
+pub mod Parts
+pub mod Sente
+pub mod Plays
+pub mod Rule
+pub mod Textbook
+pub mod More

@@ -60,6 +60,16 @@ abbrev mutual
   LawfulF (one x) = Lawful x
   LawfulF (more x F) = Lawful x × LawfulF F
 
+-- every score is within its limit
+abbrev mutual
+  pub Within : Tree → Type 0
+  Within (ended v) = Score v
+  Within (branch L R) = WithinF L × WithinF R
+
+  pub WithinF : Forest → Type 0
+  WithinF (one x) = Within x
+  WithinF (more x F) = Within x × WithinF F
+
 -- the longest number of moves
 unfoldable mutual
   pub height : Tree → ℕ
