@@ -7,3 +7,9 @@ pub mod Plays
 pub mod Rule
 pub mod Textbook
 pub mod More
+pub mod Fairness
+pub mod Range
+pub mod Floors
+pub mod TextbookSums
+pub mod Rising
+pub mod Corners

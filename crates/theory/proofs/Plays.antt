@@ -24,7 +24,7 @@ use Rattle.theory.proofs.Parts.{sum-put, span-put, all-put, all-at, Move}
 use Rattle.theory.proofs.Sente as sente
 
 -- an option of greatest near wall reaches the wall
-best-reaches : (s : Side) (x o : Tree) (a : ℕ) → Fair x → Open x → a ≤ temperature x → Best s x o a → taxed s o a ≡ wall x s a
+pub best-reaches : (s : Side) (x o : Tree) (a : ℕ) → Fair x → Open x → a ≤ temperature x → Best s x o a → taxed s o a ≡ wall x s a
 best-reaches s x o a f i h b =
     let (q, p, e) = sente.best s x a i h in
     omega (arith, ints, e, b .top q p, sente.over s x o a f (b .legal))
