@@ -215,7 +215,7 @@ walls-are-drawn x f = record {
 }
 
 pub drawing-is-sole : Drawing-is-sole
-drawing-is-sole x f = record {
+drawing-is-sole x = record {
   left = λ v cs o h. drawn-by x Left v cs o h;
   right = λ v cs o h.
       let (a, b) = drawn-by x Right (negℤ v) cs o (λ t. omega (arith, ints, h t)) in

@@ -13,6 +13,7 @@ use Rattle.theory.specs.Limits.{greatestHeight}
 use Rattle.theory.specs.Trees.{Tree, Forest, ended, branch, one, more, Lawful, LawfulF, Within, WithinF, height}
 use Rattle.theory.specs.Stops.{stopF, Warm, WarmF, cold, coldF}
 use Rattle.theory.specs.Fair.{Fair}
+use Rattle.theory.specs.Laws.{Cold-is-judged, Judged}
 
 mutual
   pub lawful-within : (x : Tree) → Lawful x → Within x
@@ -60,3 +61,6 @@ cold-not-warm x e w = both-ways (cold x) (warm-cold x w) e
 
 pub not-warm-cold : (x : Tree) → (Warm x → ⊥) → cold x ≡ true
 not-warm-cold x n = elim (cases-bool (cold x)) [ inl e ↦ e | inr e ↦ absurd (n (cold-warm x e)) ]
+
+pub cold-is-judged : Cold-is-judged
+cold-is-judged x = record { yes = cold-not-warm x; no = cold-warm x; fair = fair x }

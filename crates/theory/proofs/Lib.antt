@@ -13,3 +13,5 @@ pub mod Floors
 pub mod TextbookSums
 pub mod Rising
 pub mod Corners
+pub mod Certificate
+pub mod Figures

@@ -193,9 +193,9 @@ branch-meets L R h w b =
     meets 0 (scaffold L Left) (scaffold R Right) (stopF L Left) (stopF R Right) (roofs L 1 Left (omega (arith, branch-height L R)) (w .1) (b .0))
     (roofs R 1 Right (omega (arith, branch-height L R)) (w .2) (b .1)) (w .0)
 
-pub walls-meet : Scaffolds-meet
+pub scaffolds-meet : Scaffolds-meet
 unfolding temperature mean
-walls-meet L R f = record {
+scaffolds-meet L R f = record {
   equal = omega (arith, ints, M .meet);
   before = λ t h. omega (arith, ints, M .apart t h);
 }
@@ -203,8 +203,8 @@ walls-meet L R f = record {
     M : Meets 0 (scaffold L Left) (scaffold R Right) (meeting (scaffold L Left) (scaffold R Right))
     M = branch-meets L R (f .shallow) (f .warm) (f .scores)
 
-pub slopes : Walls-slope
-slopes x f = record {
+pub walls-slope : Walls-slope
+walls-slope x f = record {
   falls = λ t. fall-within 0 (wall x Left t) (wall x Left (suc t)) t (W .steps Left t);
   rises = λ t. rise (fall-within 0 (wall x Right t) (wall x Right (suc t)) t (W .steps Right t));
   order = λ t. omega (arith, ints, W .order t);

@@ -1,4 +1,5 @@
 -- The laws of hot sums. Each stands in the contract of a function of this crate, so each is proved.
+use mathlib.Core.Bool.{true, false}
 use mathlib.Core.List.{List, [], _∷_}
 use mathlib.Core.Path.{_≡_}
 use Prim.Native.Nat.{ℕ, suc, min, _+_, _%_, _≤_, _<_}
@@ -8,9 +9,9 @@ use lib.Signed.{_≤ℤ_, _<ℤ_}
 use Rattle.terms.specs.declared.side.Side.{Side}
 use Rattle.terms.specs.declared.side.Side.the-variants.{Left, Right}
 use Rattle.terms.specs.Sides.{other, own}
-use Rattle.theory.specs.Limits.{unit, wallLimit}
-use Rattle.theory.specs.Trees.{Tree, Forest, branch, options, Open, Ended}
-use Rattle.theory.specs.Stops.{stop}
+use Rattle.theory.specs.Limits.{unit, greatestHeight, wallLimit}
+use Rattle.theory.specs.Trees.{Tree, Forest, branch, options, Open, Ended, Lawful, height}
+use Rattle.theory.specs.Stops.{stop, Warm, cold}
 use Rattle.theory.specs.Fair.{Fair}
 use Rattle.theory.specs.Walls.{wall, temperature, mean, leftWall, rightWall, leftScaffold, rightScaffold}
 use Rattle.theory.specs.Corners.{In, Ordered, Corners, rising, falling, cornersOf}
@@ -19,6 +20,16 @@ use Rattle.theory.specs.Strategies.{Ours, Theirs}
 use Rattle.theory.specs.Sente.{taxed, Best, Turn, idle, pending, theirs, floor, Run, Sente, Makes}
 use Rattle.theory.specs.Mirror.{mirror}
 use Rattle.theory.specs.Textbook.{leftStop, rightStop, bookLeft, bookRight, bookTemperature, bookMean, leftSumStop, rightSumStop}
+
+-- ---- fair trees
+-- the test for cold positions says whether the tree is warm, and a lawful tree of legal height that is warm is fair
+pub record Judged (x : Tree) : Type 0 where
+  pub yes : cold x ≡ true → Warm x → ⊥
+  pub no : cold x ≡ false → Warm x
+  pub fair : Lawful x → Warm x → height x ≤ greatestHeight → Fair x
+
+abbrev pub Cold-is-judged : Type 0
+Cold-is-judged = (x : Tree) → Judged x
 
 -- ---- walls
 -- a left wall falls by 0 or 1 at each unit, a right wall rises by 0 or 1, and it is never above the left one; at 0 they are the stops
@@ -77,7 +88,7 @@ pub record Sole (x : Tree) : Type 0 where
   pub right : (v : ℤ) (cs : List ℕ) → Ordered cs → ((t : ℕ) → rightWall x t ≡ rising v cs t) → (v ≡ rightWall x 0) × (cs ≡ cornersOf x Right)
 
 abbrev pub Drawing-is-sole : Type 0
-Drawing-is-sole = (x : Tree) → Fair x → Sole x
+Drawing-is-sole = (x : Tree) → Sole x
 
 -- what any rising list draws has its corners there, and a function has one list of corners
 pub record Turning (cs : List ℕ) : Type 0 where

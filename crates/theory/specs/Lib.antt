@@ -10,3 +10,5 @@ pub mod Mirror
 pub mod Textbook
 pub mod Corners
 pub mod Laws
+pub mod Notes
+pub mod Figures
