@@ -187,14 +187,16 @@ pinned-next f G p c cs l e (r, k) = ((l, r), after)
         ]
 
 pinned : (f : ℕ → ℤ) (m : ℕ) → Gentle f → Still f m → (p : ℕ) (cs : List ℕ) → T (turnsAt f p cs m) → Pinned f p cs
-pinned f m G S p [] h =
-    (tt, λ t l.
-    let k : f p ≤ℤ f m = leZ-yes h in
-    let a = between f G p t l in
-    elim (cases-lt t m) [
-      | inl b ↦ omega (arith, ints, between f G (suc t) m b, G t)
-      | inr b ↦ omega (arith, ints, S t b)
-    ])
+pinned f m G S p [] h = (
+  tt,
+  λ t l.
+      let k : f p ≤ℤ f m = leZ-yes h in
+      let a = between f G p t l in
+      elim (cases-lt t m) [
+        | inl b ↦ omega (arith, ints, between f G (suc t) m b, G t)
+        | inr b ↦ omega (arith, ints, S t b)
+      ],
+)
 pinned f m G S p (c ∷ cs) h =
     let v : ℤ = f c +ℤ run (suc (length cs)) (c - p) in
     let w : Bool = leZ (f p) v && leZ v (f p) in
@@ -223,12 +225,14 @@ fair-so : (n : Note) → T (certified n) → Fair (bare n) × T (meetsThroughout
 fair-so n h =
     let x : Tree = bare n in
     let b = and-r (leb (height x) greatestHeight) (not (cold x) && (limited x && meetsThroughout n)) h in
-    let c = and-r (not (cold x)) (limited x && meetsThroughout n) b in
-    (record {
-      shallow = leb→le (height x) greatestHeight (and-l (leb (height x) greatestHeight) (not (cold x) && (limited x && meetsThroughout n)) h);
-      warm = cold-warm x (not-so (cold x) (and-l (not (cold x)) (limited x && meetsThroughout n) b));
-      scores = limited-so x (and-l (limited x) (meetsThroughout n) c);
-    }, and-r (limited x) (meetsThroughout n) c)
+    let c = and-r (not (cold x)) (limited x && meetsThroughout n) b in (
+      record {
+        shallow = leb→le (height x) greatestHeight (and-l (leb (height x) greatestHeight) (not (cold x) && (limited x && meetsThroughout n)) h);
+        warm = cold-warm x (not-so (cold x) (and-l (not (cold x)) (limited x && meetsThroughout n) b));
+        scores = limited-so x (and-l (limited x) (meetsThroughout n) c);
+      },
+      and-r (limited x) (meetsThroughout n) c,
+    )
 
 pub certificates : Certificates
 certificates n h =

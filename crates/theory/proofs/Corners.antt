@@ -199,9 +199,10 @@ wall-begins x s f =
 
 -- a list and a start that draw the wall in its side's terms are its own
 pub drawn-by : (x : Tree) (s : Side) (v : ℤ) (cs : List ℕ) → Ordered cs → ((t : ℕ) → wall x s t ≡ falling v cs t) → (v ≡ wall x s 0) × (cs ≡ cornersOf x s)
-drawn-by x s v cs o h =
-    (omega (arith, ints, h 0),
-    corners-one (wall x s) cs (cornersOf x s) (steps-corners (wall x s) cs o (λ t. omega (arith, ints, h t, h (suc t)))) (wall-corners x s))
+drawn-by x s v cs o h = (
+  omega (arith, ints, h 0),
+  corners-one (wall x s) cs (cornersOf x s) (steps-corners (wall x s) cs o (λ t. omega (arith, ints, h t, h (suc t)))) (wall-corners x s),
+)
 
 pub walls-are-drawn : Walls-are-drawn
 walls-are-drawn x f = record {

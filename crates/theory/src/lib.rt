@@ -30,3 +30,7 @@ pub use limits::GREATEST_HEIGHT;
 pub use limits::OPTION_LIMIT;
 pub use limits::SCORE_LIMIT;
 pub use limits::UNIT;
+pub use limits::greatest_score;
+pub use limits::height_limit;
+pub use limits::most_options;
+pub use limits::point_units;
