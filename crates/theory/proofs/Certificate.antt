@@ -1,31 +1,30 @@
 -- Certificates: what a note says of its tree's temperatures, walls and corners is so.
 use mathlib.Core.Bool.{Bool, true, false, not, cond, _&&_}
-use mathlib.Core.List.{List, [], _∷_}
-use mathlib.Core.Logic.{_⊎_, inl, inr}
+use mathlib.Core.List.{List, _∷_}
+use mathlib.Core.Logic.{inl, inr}
 use mathlib.Core.Path.{_≡_, refl, sym, _∙_, ap, subst, fun-ext}
 use Prim.Native.Nat.{ℕ, zero, suc, _+_, min, _≤_, _<_, _-_, _%_}
 use native.Mathlib.Omega.{arith}
 use native.Mathlib.Decide.{decLt, decLe}
 use lib.Dec.{T, leb, ltb, eqb, leb→le, ltb→lt}
-use lib.IntN.{ℤ, pos, negsuc, negℤ, _+ℤ_, _-ℤ_, _*ℤ_}
+use lib.IntN.{ℤ, pos, negℤ, _+ℤ_, _-ℤ_, _*ℤ_}
 use lib.ListN.{length}
 use lib.Signed.{ltZ, leZ, _≤ℤ_, _<ℤ_, leZ-yes, ltZ-yes}
 use borrow.Author.Differences.{ints}
 use Rattle.std.specs.Numbers.{maxZ}
-use Rattle.std.proofs.shelf.Signed.{clamps}
 use Rattle.std.proofs.shelf.Tests.{cases-bool, cases-lt, eqb-true, eqb-false, lt-ltb, le-ltb}
 use Rattle.terms.specs.declared.side.Side.{Side}
 use Rattle.terms.specs.declared.side.Side.the-variants.{Left, Right}
 use Rattle.terms.specs.Sides.{other, own}
 use Rattle.theory.specs.Limits.{unit, greatestHeight, scoreLimit}
 use Rattle.theory.specs.Trees.{Tree, Forest, ended, branch, one, more, height, heightF, Within, WithinF}
-use Rattle.theory.specs.Stops.{stopF, Warm, WarmF, cold}
+use Rattle.theory.specs.Stops.{stopF, WarmF, cold}
 use Rattle.theory.specs.Fair.{Fair}
 use Rattle.theory.specs.Walls.{meeting, wall, scaffold, temperature, mean}
 use Rattle.theory.specs.Corners.{above, step, cornersOf}
-use Rattle.theory.specs.Notes.{Note, Notes, leaf, node, last, also, bare, bareF, noted, notedF, meetsAt, meetsThroughout, meetsThroughoutF, limited, limitedF, certified, run, turnsAt, notedTemperature, notedMean, Certified, Certificates}
-use Rattle.theory.proofs.Meet.{Roof, Meets, roofs, meets, meeting-before, branch-meets, branch-height, one-height, more-height}
-use Rattle.theory.proofs.Sente.{roof-falls}
+use Rattle.theory.specs.Notes.{Note, Notes, leaf, node, last, also, bare, bareF, noted, notedF, meetsAt, meetsThroughout, meetsThroughoutF, limited, limitedF, certified, run, turnsAt, notedTemperature, notedMean, Certificates}
+use Rattle.theory.proofs.Meet.{Scaffold, scaffolds, meets, meeting-before, branch-height, one-height, more-height}
+use Rattle.theory.proofs.Sente.{scaffold-falls}
 use Rattle.theory.proofs.Fairness.{cold-warm}
 use Rattle.theory.proofs.Rising.{Rising, ordered, above-all}
 use Rattle.theory.proofs.Corners.{Gentle, Still, steps-corners, corners-one, wall-gentle, wall-still, wall-corners}
@@ -55,7 +54,7 @@ mutual
   limitedF-so (more x F) h = (limited-so x (and-l (limited x) (limitedF F) h), limitedF-so F (and-r (limited x) (limitedF F) h))
 
 -- the meeting is where the scaffolds have met and just before had not
-meeting-at : (f g : ℕ → ℤ) (y z : ℤ) (n m : ℕ) → Roof (suc n) f y → Roof (suc n) g z → pos 0 ≤ℤ (y +ℤ z) → T (meetsAt f g m) → meeting f g ≡ m
+meeting-at : (f g : ℕ → ℤ) (y z : ℤ) (n m : ℕ) → Scaffold (suc n) f y → Scaffold (suc n) g z → pos 0 ≤ℤ (y +ℤ z) → T (meetsAt f g m) → meeting f g ≡ m
 meeting-at f g y z n zero F G w h =
     let k : (f 0 +ℤ g 0) ≤ℤ pos 0 = leZ-yes h in
     elim (decLt 0 (meeting f g)) [
@@ -75,8 +74,8 @@ meeting-at f g y z n (suc u) F G w h =
                   arith,
                   ints,
                   meets n f g y z F G w .meet,
-                  roof-falls f (suc n) y F (u - meeting f g) (meeting f g) u (omega arith),
-                  roof-falls g (suc n) z G (u - meeting f g) (meeting f g) u (omega arith),
+                  scaffold-falls f (suc n) y F (u - meeting f g) (meeting f g) u (omega arith),
+                  scaffold-falls g (suc n) z G (u - meeting f g) (meeting f g) u (omega arith),
                 ))
           ]
     ]
@@ -85,8 +84,8 @@ node-meets : (m : ℕ) (L R : Notes) → Fair (branch (bareF L) (bareF R))
     → ((t : ℕ) → scaffold (bareF L) Left t ≡ notedF L Left t) → ((t : ℕ) → scaffold (bareF R) Right t ≡ notedF R Right t)
     → T (meetsAt (notedF L Left) (notedF R Right) m) → meeting (scaffold (bareF L) Left) (scaffold (bareF R) Right) ≡ m
 node-meets m L R f p q h =
-    let l = roofs (bareF L) 1 Left (omega (arith, branch-height (bareF L) (bareF R), f .shallow)) (f .warm .1) (f .scores .0) in
-    let r = roofs (bareF R) 1 Right (omega (arith, branch-height (bareF L) (bareF R), f .shallow)) (f .warm .2) (f .scores .1) in
+    let l = scaffolds (bareF L) 1 Left (omega (arith, branch-height (bareF L) (bareF R), f .shallow)) (f .warm .1) (f .scores .0) in
+    let r = scaffolds (bareF R) 1 Right (omega (arith, branch-height (bareF L) (bareF R), f .shallow)) (f .warm .2) (f .scores .1) in
     let c : T (meetsAt (notedF L Left) (scaffold (bareF R) Right) m) = subst (λ g. T (meetsAt (notedF L Left) g m)) (sym (fun-ext q)) h in
     let d : T (meetsAt (scaffold (bareF L) Left) (scaffold (bareF R) Right) m) = subst (λ g. T (meetsAt g (scaffold (bareF R) Right) m)) (sym (fun-ext p)) c in
     meeting-at (scaffold (bareF L) Left) (scaffold (bareF R) Right) (stopF (bareF L) Left) (stopF (bareF R) Right) 0 m l r (f .warm .0) d

@@ -1,29 +1,28 @@
 -- The corners of a wall: they are found, they draw it, and nothing else does.
-use mathlib.Core.Bool.{Bool, true, false, cond, _||_}
-use mathlib.Core.List.{List, [], _∷_}
-use mathlib.Core.Logic.{_⊎_, inl, inr}
-use mathlib.Core.Path.{_≡_, refl, sym, ap, subst, _∙_}
-use Prim.Native.Nat.{ℕ, zero, suc, _+_, _-_, _%_, _≤_, _<_}
+use mathlib.Core.Bool.{true, false}
+use mathlib.Core.List.{List, _∷_}
+use mathlib.Core.Logic.{inl, inr}
+use mathlib.Core.Path.{_≡_, refl, sym, subst}
+use Prim.Native.Nat.{ℕ, zero, suc, _+_, _%_, _≤_, _<_}
 use native.Mathlib.Omega.{arith}
-use native.Mathlib.Decide.{decLe, decLt}
 use lib.IntN.{ℤ, pos, negℤ, _+ℤ_, _-ℤ_}
 use lib.ListN.{length}
-use lib.Signed.{ltZ, _≤ℤ_, _<ℤ_}
+use lib.Signed.{ltZ, _≤ℤ_}
 use borrow.Author.Differences.{ints}
 use Rattle.std.proofs.shelf.Signed.{by-ltZ}
-use Rattle.std.proofs.shelf.Tests.{cases-lt, cases-eq, cases-bool, or-cases, or-parts}
+use Rattle.std.proofs.shelf.Tests.{cases-lt, cases-eq, or-cases, or-parts}
 use Rattle.terms.specs.declared.side.Side.{Side}
 use Rattle.terms.specs.declared.side.Side.the-variants.{Left, Right}
 use Rattle.theory.specs.Trees.{Tree}
 use Rattle.theory.specs.Fair.{Fair}
-use Rattle.theory.specs.Walls.{wall, temperature, leftWall, rightWall}
-use Rattle.theory.specs.Corners.{In, Ordered, Corner, Corners, above, step, rise, rising, falling, differ, turnsAfter, scan, cornersOf}
-use Rattle.theory.specs.Laws.{Walls-are-drawn, Drawn, Drawing-is-sole, Sole, Lists-turn, Turning}
+use Rattle.theory.specs.Walls.{wall, temperature, rightWall}
+use Rattle.theory.specs.Corners.{In, Ordered, Corner, Corners, above, step, rising, falling, turnsAfter, scan, cornersOf}
+use Rattle.theory.specs.Laws.{Walls-are-drawn, Drawing-is-sole, Lists-turn}
 use Rattle.theory.proofs.Search.{by-bool}
 use Rattle.theory.proofs.Grid.{fall-within}
 use Rattle.theory.proofs.Meet.{walls}
 use Rattle.theory.proofs.Sente.{flat}
-use Rattle.theory.proofs.Rising.{Rising, ascends, ordered, above-all, above-none, none-in, in-above, turns, same-members}
+use Rattle.theory.proofs.Rising.{Rising, ascends, ordered, above-all, above-none, none-in, turns, same-members}
 
 -- a function that falls by 0 or 1 at each step
 abbrev pub Gentle : (ℕ → ℤ) → Type 0

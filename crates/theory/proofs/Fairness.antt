@@ -1,11 +1,11 @@
 -- Which trees are fair: a lawful tree of legal height without cold positions, and the test for cold ones.
-use mathlib.Core.Bool.{Bool, true, false, _||_}
-use mathlib.Core.Logic.{_⊎_, inl, inr}
+use mathlib.Core.Bool.{true, false, _||_}
+use mathlib.Core.Logic.{inl, inr}
 use mathlib.Core.Path.{_≡_, refl, sym}
-use Prim.Native.Nat.{ℕ, _≤_}
+use Prim.Native.Nat.{_≤_}
 use native.Mathlib.Omega.{arith}
-use lib.IntN.{ℤ, pos, _+ℤ_}
-use lib.Signed.{ltZ, _≤ℤ_}
+use lib.IntN.{pos, _+ℤ_}
+use lib.Signed.{ltZ}
 use borrow.Author.Differences.{ints}
 use Rattle.std.proofs.shelf.Tests.{or-parts, or-from, cases-bool, both-ways}
 use Rattle.terms.specs.declared.side.Side.the-variants.{Left, Right}
@@ -13,7 +13,7 @@ use Rattle.theory.specs.Limits.{greatestHeight}
 use Rattle.theory.specs.Trees.{Tree, Forest, ended, branch, one, more, Lawful, LawfulF, Within, WithinF, height}
 use Rattle.theory.specs.Stops.{stopF, Warm, WarmF, cold, coldF}
 use Rattle.theory.specs.Fair.{Fair}
-use Rattle.theory.specs.Laws.{Cold-is-judged, Judged}
+use Rattle.theory.specs.Laws.{Cold-is-judged}
 
 mutual
   pub lawful-within : (x : Tree) → Lawful x → Within x

@@ -1,18 +1,18 @@
 -- The worked figures, by certificates.
-use mathlib.Core.List.{List, [], _∷_}
+use mathlib.Core.List.{List, _∷_}
 use mathlib.Core.Path.{_≡_, refl}
 use Prim.Native.Nat.{ℕ}
 use native.Mathlib.Omega.{arith}
 use lib.Dec.{T}
-use lib.IntN.{ℤ, pos, negsuc, _+ℤ_, _-ℤ_, _*ℤ_}
+use lib.IntN.{pos, negsuc, _*ℤ_}
 use borrow.Author.Differences.{ints}
 use Rattle.terms.specs.declared.side.Side.the-variants.{Left, Right}
 use Rattle.theory.specs.Limits.{unit}
-use Rattle.theory.specs.Trees.{Tree, size, height}
+use Rattle.theory.specs.Trees.{size, height}
 use Rattle.theory.specs.Stops.{stop, cold}
 use Rattle.theory.specs.Fair.{Fair}
 use Rattle.theory.specs.Walls.{temperature, mean}
-use Rattle.theory.specs.Sums.{All, sumStop, bestScore, hottest, low, high}
+use Rattle.theory.specs.Sums.{All, sumStop, bestScore}
 use Rattle.theory.specs.Notes.{Note, leaf, node, last, also, bare, notedTemperature, notedMean, noted, turnsAt, certified}
 use Rattle.theory.specs.Figures.{fourOrNothing, nineTwo, fiveTwo, twoRegions, snortPath, Drawing, Worked-figures}
 use Rattle.theory.proofs.Certificate.{certificates}

@@ -1,24 +1,21 @@
--- The floor never falls, and what it is at an opening.
-use mathlib.Core.List.{List, [], _∷_}
-use mathlib.Core.Path.{_≡_, refl, ap}
-use Prim.Native.Nat.{ℕ, min, max, _≤_}
+-- The floor never falls, what it is at an opening, and that a side can make sure of it.
+use mathlib.Core.List.{List, _∷_}
+use mathlib.Core.Path.{ap}
+use Prim.Native.Nat.{ℕ, _≤_}
 use native.Mathlib.Omega.{arith}
-use lib.IntN.{ℤ, pos, negℤ, _+ℤ_, _-ℤ_, _*ℤ_}
-use lib.Signed.{_≤ℤ_}
+use lib.IntN.{negℤ}
 use borrow.Author.Differences.{ints}
-use Rattle.terms.specs.declared.side.Side.{Side}
 use Rattle.terms.specs.declared.side.Side.the-variants.{Left, Right}
-use Rattle.terms.specs.Sides.{other, own}
-use Rattle.theory.specs.Limits.{unit}
-use Rattle.theory.specs.Trees.{Tree, Ended, options}
+use Rattle.terms.specs.Sides.{other}
+use Rattle.theory.specs.Trees.{Tree}
 use Rattle.theory.specs.Fair.{Fair}
-use Rattle.theory.specs.Walls.{wall, temperature, mean}
-use Rattle.theory.specs.Sums.{Part, put, placed, All, sumOf, score, span, bestScore, hottest}
-use Rattle.theory.specs.Sente.{Best, Turn, idle, pending, theirs, wallSum, floor}
-use Rattle.theory.specs.Laws.{Floor-never-falls, Kept, Opening-loss, Opened}
+use Rattle.theory.specs.Walls.{wall}
+use Rattle.theory.specs.Sums.{All, span, hottest}
+use Rattle.theory.specs.Sente.{idle}
+use Rattle.theory.specs.Laws.{Floor-never-falls, Opening-loss, Floor-is-sure}
 use Rattle.theory.proofs.Parts.{sum-put, all-at}
 use Rattle.theory.proofs.Sente as sente
-use Rattle.theory.proofs.Plays.{best-reaches, their-option, floor-ended}
+use Rattle.theory.proofs.Plays.{best-reaches, their-option, floor-ended, plans}
 
 -- no part is hotter than what the hottest does not pass
 pub all-cool : (c : ℕ) (xs : List Tree) → hottest xs ≤ c → All (sente.Cool c) xs
@@ -67,4 +64,15 @@ opening-loss Right xs f =
       movingLoss = omega (arith, ints);
       waitingSure = omega (arith, ints);
       waitingLoss = omega (arith, ints);
+    }
+
+-- ---- a side can make sure of its floor
+pub floor-is-sure : Floor-is-sure
+floor-is-sure s a xs f =
+    let C = sente.claims (span xs) in
+    let P = plans (span xs) in
+    let l : span xs ≤ span xs = omega arith in
+    record {
+      moving = λ v h. P .go s xs v l (omega (arith, ints, C .idle s xs a l f));
+      waiting = λ v h. P .hold s xs v l (omega (arith, ints, C .upper (other s) xs a l f));
     }

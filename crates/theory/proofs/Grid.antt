@@ -1,15 +1,13 @@
 -- The grid: what makes walls meet at whole units. A step of a wall, from a at t to b at t + 1, is Fall n: it stands still on a
 -- multiple of 2 ^ n, or falls by one where the wall and the tax together are a multiple of it.
-use mathlib.Core.Bool.{Bool, true, false, cond}
-use mathlib.Core.Logic.{_⊎_, inl, inr}
 use mathlib.Core.Path.{_≡_, refl, sym, _∙_, ap, subst}
-use Prim.Native.Nat.{ℕ, zero, suc, _+_, _*_, _-_, _^_, _≤_, _<_}
+use Prim.Native.Nat.{ℕ, zero, suc, _+_, _*_, _-_, _^_, _≤_}
 use native.Mathlib.Nat.{add-mul, pow-suc}
 use native.Mathlib.Omega.{arith}
 use lib.IntN.{ℤ, pos, negsuc, negℤ, _+ℤ_, _-ℤ_, _*ℤ_}
-use lib.Signed.{ltZ, leZ, _≤ℤ_, _<ℤ_}
+use lib.Signed.{_≤ℤ_, _<ℤ_}
 use borrow.Author.Differences.{ints}
-use Rattle.std.specs.Numbers.{maxZ, minZ}
+use Rattle.std.specs.Numbers.{maxZ}
 use Rattle.std.proofs.shelf.Signed.{clamps, by-ltZ}
 use Rattle.theory.specs.Limits.{unit, greatestHeight}
 

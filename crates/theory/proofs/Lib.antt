@@ -6,7 +6,8 @@ pub mod Sente
 pub mod Plays
 pub mod Rule
 pub mod Textbook
-pub mod More
+pub mod Single
+pub mod Mirror
 pub mod Fairness
 pub mod Range
 pub mod Floors

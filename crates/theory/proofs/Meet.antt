@@ -1,29 +1,27 @@
 -- Walls meet: one induction over a tree gives the slopes, the order, the start, the bounds and the meeting.
-use mathlib.Core.Bool.{Bool, true, false, cond}
-use mathlib.Core.Logic.{_⊎_, inl, inr}
+use mathlib.Core.Bool.{true}
 use mathlib.Core.Path.{_≡_, refl, sym, _∙_, ap, subst}
-use Prim.Native.Nat.{ℕ, zero, suc, _+_, min, max, _≤_, _<_, _*_, _-_, _^_}
+use Prim.Native.Nat.{ℕ, zero, suc, _+_, min, max, _≤_, _<_}
 use native.Mathlib.Omega.{arith}
-use native.Mathlib.Decide.{decLt, decLe}
-use lib.IntN.{ℤ, pos, negsuc, negℤ, _+ℤ_, _-ℤ_, _*ℤ_}
-use lib.Signed.{ltZ, leZ, _≤ℤ_, _<ℤ_}
+use native.Mathlib.Decide.{decLt}
+use lib.IntN.{ℤ, pos, negℤ, _+ℤ_, _-ℤ_, _*ℤ_}
+use lib.Signed.{leZ, _≤ℤ_, _<ℤ_}
 use borrow.Author.Differences.{ints}
-use Rattle.std.specs.Numbers.{maxZ, minZ}
-use Rattle.std.proofs.shelf.Signed.{clamps, by-ltZ}
+use Rattle.std.proofs.shelf.Signed.{clamps}
 use Rattle.terms.specs.declared.side.Side.{Side}
 use Rattle.terms.specs.declared.side.Side.the-variants.{Left, Right}
-use Rattle.terms.specs.Sides.{other, own, pick}
+use Rattle.terms.specs.Sides.{other, own}
 use Rattle.theory.specs.Limits.{unit, greatestHeight, wallLimit}
 use Rattle.theory.specs.Trees.{Tree, Forest, ended, branch, one, more, height, heightF, Within, WithinF}
 use Rattle.theory.specs.Stops.{stop, stopF, Warm, WarmF}
 use Rattle.theory.specs.Fair.{Fair}
-use Rattle.theory.specs.Walls.{least, meeting, wall, scaffold, temperature, mean, leftWall, rightWall, leftScaffold, rightScaffold}
-use Rattle.theory.specs.Laws.{Scaffolds-meet, Meet, Walls-slope, Slopes}
-use Rattle.theory.proofs.Grid.{Div, div-down, div-add, div-neg, Fall, still, falls, fall-turn, fall-same, fall-within, fall-max, fall-meet, fall-down, fall-start, points}
-use Rattle.theory.proofs.Search.{by-bool, least-before, least-passes, least-bound}
+use Rattle.theory.specs.Walls.{meeting, wall, scaffold, temperature, mean}
+use Rattle.theory.specs.Laws.{Scaffolds-meet, Walls-slope}
+use Rattle.theory.proofs.Grid.{Div, div-down, div-neg, Fall, still, falls, fall-turn, fall-same, fall-within, fall-max, fall-meet, fall-down, fall-start, points}
+use Rattle.theory.proofs.Search.{least-before, least-passes}
 
 -- ---- a scaffold, in its side's terms
-pub record Roof (n : ℕ) (f : ℕ → ℤ) (z : ℤ) : Type 0 where
+pub record Scaffold (n : ℕ) (f : ℕ → ℤ) (z : ℤ) : Type 0 where
   pub steps : (t : ℕ) → Fall n (f t) (f (suc t)) t
   pub start : f 0 ≡ (pos unit *ℤ z)
   pub high : (t : ℕ) → f t ≤ℤ (pos wallLimit -ℤ pos t)
@@ -48,7 +46,7 @@ meeting-passes f g h =
     subst (λ x. leZ (f x +ℤ g x) (pos 0) ≡ true) z (sym o) in
     let e = least-passes (λ t. leZ (f t +ℤ g t) (pos 0)) wallLimit 0 q in omega (arith, ints)
 
-pub meets : (n : ℕ) (f g : ℕ → ℤ) (y z : ℤ) → Roof (suc n) f y → Roof (suc n) g z → pos 0 ≤ℤ (y +ℤ z) → Meets n f g (meeting f g)
+pub meets : (n : ℕ) (f g : ℕ → ℤ) (y z : ℤ) → Scaffold (suc n) f y → Scaffold (suc n) g z → pos 0 ≤ℤ (y +ℤ z) → Meets n f g (meeting f g)
 meets n f g y z F G w = record { apart = meeting-before f g; meet = got .0; grid = got .1 }
   where
     low : (f (meeting f g) +ℤ g (meeting f g)) ≤ℤ pos 0
@@ -70,7 +68,7 @@ pub record Walls (n : ℕ) (x : Tree) : Type 0 where
 
 -- a scaffold, cut at the mast
 module _ (n : ℕ) (f g : ℕ → ℤ) (m : ℕ) (M : Meets n f g m) where
-  cut-left : (z : ℤ) → Roof (suc n) f z → (t : ℕ) → Fall n (f (min t m)) (f (min (suc t) m)) t
+  cut-left : (z : ℤ) → Scaffold (suc n) f z → (t : ℕ) → Fall n (f (min t m)) (f (min (suc t) m)) t
   cut-left z F t =
       elim (decLt t m) [
         | yes h ↦
@@ -110,7 +108,7 @@ ended-walls n v h w = record {
   high = elim [ Left ↦ λ t. omega (arith, ints) | Right ↦ λ t. omega (arith, ints) ];
 }
 
-branch-walls : (n : ℕ) (L R : Forest) → Roof (suc n) (scaffold L Left) (stopF L Left) → Roof (suc n) (scaffold R Right) (stopF R Right)
+branch-walls : (n : ℕ) (L R : Forest) → Scaffold (suc n) (scaffold L Left) (stopF L Left) → Scaffold (suc n) (scaffold R Right) (stopF R Right)
     → pos 0 ≤ℤ (stopF L Left +ℤ stopF R Right) → Walls n (branch L R)
 unfolding wall stop
 branch-walls n L R F G w = record {
@@ -141,9 +139,9 @@ branch-walls n L R F G w = record {
     first : f (min 0 m) ≡ f 0
     first = ap f zero-first
 
-one-roof : (n : ℕ) (x : Tree) (s : Side) → Walls n x → Roof n (scaffold (one x) s) (stopF (one x) s)
+one-scaffold : (n : ℕ) (x : Tree) (s : Side) → Walls n x → Scaffold n (scaffold (one x) s) (stopF (one x) s)
 unfolding wall stop
-one-roof n x s W = record {
+one-scaffold n x s W = record {
   steps = λ t. fall-turn n (wall x (other s) t) (wall x (other s) (suc t)) t (W .steps (other s) t);
   start = omega (arith, ints, W .start (other s));
   high = λ t. omega (arith, ints, cover s t);
@@ -153,10 +151,10 @@ one-roof n x s W = record {
     cover Left t = omega (arith, ints, W .order t, W .high Left t)
     cover Right t = omega (arith, ints, W .order t, W .high Right t)
 
-more-roof : (n : ℕ) (x : Tree) (F : Forest) (s : Side) → Roof n (scaffold (one x) s) (stopF (one x) s) → Roof n (scaffold F s) (stopF F s)
-    → Roof n (scaffold (more x F) s) (stopF (more x F) s)
+more-scaffold : (n : ℕ) (x : Tree) (F : Forest) (s : Side) → Scaffold n (scaffold (one x) s) (stopF (one x) s) → Scaffold n (scaffold F s) (stopF F s)
+    → Scaffold n (scaffold (more x F) s) (stopF (more x F) s)
 unfolding wall stop
-more-roof n x F s X G = record {
+more-scaffold n x F s X G = record {
   steps = λ t. fall-max n (scaffold (one x) s t) (scaffold (one x) s (suc t)) (scaffold F s t) (scaffold F s (suc t)) t (X .steps t) (G .steps t);
   start = omega (arith, ints, clamps, X .start, G .start);
   high = λ t. omega (arith, ints, clamps, X .high t, G .high t);
@@ -178,30 +176,59 @@ mutual
   pub walls : (x : Tree) (n : ℕ) → n + height x ≤ greatestHeight → Warm x → Within x → Walls n x
   walls (ended v) n h w b = ended-walls n v (omega arith) b
   walls (branch L R) n h w b =
-      branch-walls n L R (roofs L (suc n) Left (omega (arith, branch-height L R)) (w .1) (b .0)) (roofs R (suc n) Right (omega (arith, branch-height L R)) (w .2) (b .1)) (w .0)
+      branch-walls n L R (scaffolds L (suc n) Left (omega (arith, branch-height L R)) (w .1) (b .0)) (scaffolds R (suc n) Right (omega (arith, branch-height L R)) (w .2) (b .1)) (w .0)
 
-  pub roofs : (F : Forest) (n : ℕ) (s : Side) → n + heightF F ≤ greatestHeight → WarmF F → WithinF F → Roof n (scaffold F s) (stopF F s)
-  roofs (one x) n s h w b = one-roof n x s (walls x n (omega (arith, one-height x)) w b)
-  roofs (more x F) n s h w b =
-      more-roof n x F s (one-roof n x s (walls x n (omega (arith, more-height x F)) (w .0) (b .0)))
-      (roofs F n s (omega (arith, more-height x F)) (w .1) (b .1))
+  pub scaffolds : (F : Forest) (n : ℕ) (s : Side) → n + heightF F ≤ greatestHeight → WarmF F → WithinF F → Scaffold n (scaffold F s) (stopF F s)
+  scaffolds (one x) n s h w b = one-scaffold n x s (walls x n (omega (arith, one-height x)) w b)
+  scaffolds (more x F) n s h w b =
+      more-scaffold n x F s (one-scaffold n x s (walls x n (omega (arith, more-height x F)) (w .0) (b .0)))
+      (scaffolds F n s (omega (arith, more-height x F)) (w .1) (b .1))
 
 -- ---- the theorems
 pub branch-meets : (L R : Forest) → height (branch L R) ≤ greatestHeight → Warm (branch L R) → Within (branch L R)
     → Meets 0 (scaffold L Left) (scaffold R Right) (meeting (scaffold L Left) (scaffold R Right))
 branch-meets L R h w b =
-    meets 0 (scaffold L Left) (scaffold R Right) (stopF L Left) (stopF R Right) (roofs L 1 Left (omega (arith, branch-height L R)) (w .1) (b .0))
-    (roofs R 1 Right (omega (arith, branch-height L R)) (w .2) (b .1)) (w .0)
+    meets 0 (scaffold L Left) (scaffold R Right) (stopF L Left) (stopF R Right) (scaffolds L 1 Left (omega (arith, branch-height L R)) (w .1) (b .0))
+    (scaffolds R 1 Right (omega (arith, branch-height L R)) (w .2) (b .1)) (w .0)
+
+-- a wall is its scaffold, cut at the temperature
+pub wall-left : (L R : Forest) (a : ℕ) → wall (branch L R) Left a ≡ scaffold L Left (min a (temperature (branch L R)))
+unfolding wall temperature
+wall-left L R a = refl
+
+pub wall-right : (L R : Forest) (a : ℕ) → wall (branch L R) Right a ≡ scaffold R Right (min a (temperature (branch L R)))
+unfolding wall temperature
+wall-right L R a = refl
+
+-- the temperature, by the place where the scaffolds have met and nowhere before
+pub temperature-is : (L R : Forest) (m : ℕ) → Fair (branch L R) → (scaffold L Left m +ℤ scaffold R Right m) ≤ℤ pos 0
+    → ((t : ℕ) → t < m → pos 0 <ℤ (scaffold L Left t +ℤ scaffold R Right t)) → temperature (branch L R) ≡ m
+unfolding temperature
+temperature-is L R m f h k =
+    let M = branch-meets L R (f .shallow) (f .warm) (f .scores) in
+    let T : ℕ = meeting (scaffold L Left) (scaffold R Right) in
+    elim (decLt m T) [
+      | yes l ↦ absurd (omega (arith, ints, M .apart m l))
+      | no g ↦ elim (decLt T m) [ yes l ↦ absurd (omega (arith, ints, M .meet, k T l)) | no l ↦ omega arith ]
+    ]
+
+pub mean-is : (L R : Forest) → mean (branch L R) ≡ scaffold L Left (temperature (branch L R))
+unfolding mean temperature
+mean-is L R = refl
+
+meets-here : (L R : Forest) → Fair (branch L R) → Meets 0 (scaffold L Left) (scaffold R Right) (temperature (branch L R))
+unfolding temperature
+meets-here L R f = branch-meets L R (f .shallow) (f .warm) (f .scores)
 
 pub scaffolds-meet : Scaffolds-meet
-unfolding temperature mean
-scaffolds-meet L R f = record {
-  equal = omega (arith, ints, M .meet);
-  before = λ t h. omega (arith, ints, M .apart t h);
-}
-  where
-    M : Meets 0 (scaffold L Left) (scaffold R Right) (meeting (scaffold L Left) (scaffold R Right))
-    M = branch-meets L R (f .shallow) (f .warm) (f .scores)
+scaffolds-meet L R f =
+    let M = meets-here L R f in
+    record {
+      equal = omega (arith, ints, M .meet);
+      before = λ t h. omega (arith, ints, M .apart t h);
+      left = λ t h. let q : min t (temperature (branch L R)) ≡ t = omega arith in wall-left L R t ∙ ap (scaffold L Left) q;
+      right = λ t h. let q : min t (temperature (branch L R)) ≡ t = omega arith in ap negℤ (wall-right L R t ∙ ap (scaffold R Right) q);
+    }
 
 pub walls-slope : Walls-slope
 walls-slope x f = record {

@@ -1,21 +1,16 @@
 -- Lists: places, moves, sums and the greatest of a list.
-use mathlib.Core.Bool.{Bool, true, false, cond}
-use mathlib.Core.List.{List, [], _∷_, _++_, map}
+use mathlib.Core.List.{List, _∷_, _++_, map}
 use mathlib.Core.Logic.{_⊎_, inl, inr}
-use mathlib.Core.Path.{_≡_, refl, sym, _∙_, ap, subst}
-use Prim.Native.Nat.{ℕ, zero, suc, _+_, min, max, _≤_, _<_, _*_, _-_}
+use mathlib.Core.Path.{_≡_, refl, _∙_, ap}
+use Prim.Native.Nat.{_+_}
 use native.Mathlib.Omega.{arith}
-use lib.IntN.{ℤ, pos, negsuc, negℤ, _+ℤ_, _-ℤ_, _*ℤ_}
-use lib.Signed.{ltZ, leZ, _≤ℤ_, _<ℤ_}
+use lib.IntN.{ℤ, _+ℤ_}
+use lib.Signed.{_≤ℤ_}
 use borrow.Author.Differences.{ints}
-use Rattle.std.specs.Numbers.{maxZ, minZ}
-use Rattle.std.proofs.shelf.Signed.{clamps, by-ltZ}
+use Rattle.std.proofs.shelf.Signed.{clamps}
 use Rattle.terms.specs.declared.side.Side.{Side}
-use Rattle.terms.specs.declared.side.Side.the-variants.{Left, Right}
-use Rattle.terms.specs.Sides.{other, own, pick}
-use Rattle.theory.specs.Limits.{unit, greatestHeight, wallLimit}
-use Rattle.theory.specs.Trees.{Tree, Forest, ended, branch, one, more, height, trees, options}
-use Rattle.theory.specs.Sums.{Part, here, there, put, placed, moves, sumOf, score, greatest, bestOf, span, All}
+use Rattle.theory.specs.Trees.{Tree, height, options}
+use Rattle.theory.specs.Sums.{Part, here, there, put, moves, sumOf, greatest, span, All}
 
 pub sum-put : {x : Tree} {xs : List Tree} (f : Tree → ℤ) (p : Part x xs) (o : Tree)
     → (sumOf f (put p o) +ℤ f x) ≡ (sumOf f xs +ℤ f o)

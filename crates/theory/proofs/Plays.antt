@@ -1,26 +1,26 @@
 -- A play by the rule never ends under its floor; the stops are what strategies can make sure of.
-use mathlib.Core.List.{List, [], _∷_}
-use mathlib.Core.Logic.{_⊎_, inl, inr}
-use mathlib.Core.Path.{_≡_, refl, sym, _∙_, ap, subst}
-use Prim.Native.Nat.{ℕ, zero, suc, _+_, min, max, _≤_, _<_}
+use mathlib.Core.List.{List}
+use mathlib.Core.Logic.{inl, inr}
+use mathlib.Core.Path.{_≡_, sym, _∙_, ap, subst}
+use Prim.Native.Nat.{ℕ, zero, suc, min, _≤_, _<_}
 use native.Mathlib.Omega.{arith}
 use native.Mathlib.Decide.{decLe}
-use lib.IntN.{ℤ, pos, negℤ, _+ℤ_, _-ℤ_, _*ℤ_}
-use lib.Signed.{_≤ℤ_, _<ℤ_}
+use lib.IntN.{ℤ, pos, negℤ, _-ℤ_, _*ℤ_}
+use lib.Signed.{_≤ℤ_}
 use borrow.Author.Differences.{ints}
 use Rattle.terms.specs.declared.side.Side.{Side}
 use Rattle.terms.specs.declared.side.Side.the-variants.{Left, Right}
 use Rattle.terms.specs.Sides.{other}
-use Rattle.theory.specs.Limits.{unit, greatestHeight, wallLimit}
-use Rattle.theory.specs.Trees.{Tree, Forest, ended, branch, height, heightF, options, Open, Ended}
+use Rattle.theory.specs.Limits.{unit}
+use Rattle.theory.specs.Trees.{Tree, ended, branch, height, options, Open, Ended}
 use Rattle.theory.specs.Fair.{Fair}
 use Rattle.theory.specs.Walls.{wall, temperature}
-use Rattle.theory.specs.Sums.{Part, here, there, put, placed, sumOf, score, span, sumStop, All}
+use Rattle.theory.specs.Sums.{Part, put, placed, sumOf, score, span, sumStop, All}
 use Rattle.theory.specs.Strategies.{Ours, ends, plays, Theirs, stands, waits}
-use Rattle.theory.specs.Sente.{taxed, Turn, idle, pending, theirs, Best, Run, fresh, reply, cooled, moves, over, wallSum, floor}
-use Rattle.theory.specs.Laws.{Floor-holds, Rule-total, Strategic, Stops-are-values}
+use Rattle.theory.specs.Sente.{taxed, Turn, idle, pending, theirs, Best, Run, fresh, reply, cooled, moves, over, floor}
+use Rattle.theory.specs.Laws.{Floor-holds, Rule-total, Stops-are-values}
 use Rattle.theory.proofs.Meet.{branch-height}
-use Rattle.theory.proofs.Parts.{sum-put, span-put, all-put, all-at, Move}
+use Rattle.theory.proofs.Parts.{sum-put, span-put, all-put, all-at}
 use Rattle.theory.proofs.Sente as sente
 
 -- an option of greatest near wall reaches the wall
@@ -63,7 +63,7 @@ floor-holds s a xs t v f (reply {x = x} p o l b r) =
     let h = sente.option-fair s x o (b .legal) g in
     keeps s p o a (pos unit *ℤ v) g (sente.hot-open x a l) (omega arith) b (floor-holds s a (put p o) theirs v (all-put Fair p o (h .1) f) r)
 floor-holds s a xs t v f (cooled {x = x} p l r) =
-    omega (arith, ints, floor-holds s a xs idle v f r, sente.mast s x a (all-at Fair p f) l)
+    omega (arith, ints, floor-holds s a xs idle v f r, sente.mast s x a (all-at Fair p f) (omega arith))
 floor-holds s a xs t v f (moves {x = x} p o q r) =
     let g = all-at Fair p f in
     let h = sente.option-fair (other s) x o q g in
@@ -186,11 +186,11 @@ stops-are-values s xs =
 pub best-exists : (s : Side) (x : Tree) (a : ℕ) → Open x → (o : Tree) × Best s x o a
 best-exists s (ended v) a i = elim i [ ]
 best-exists Left (branch L R) a i =
-    let (o, p, e) = sente.roof-reached L Left a in
-    (o, record { legal = p; top = λ q l. omega (arith, ints, e, sente.roof-over L Left q a l) })
+    let (o, p, e) = sente.scaffold-reached L Left a in
+    (o, record { legal = p; top = λ q l. omega (arith, ints, e, sente.scaffold-over L Left q a l) })
 best-exists Right (branch L R) a i =
-    let (o, p, e) = sente.roof-reached R Right a in
-    (o, record { legal = p; top = λ q l. omega (arith, ints, e, sente.roof-over R Right q a l) })
+    let (o, p, e) = sente.scaffold-reached R Right a in
+    (o, record { legal = p; top = λ q l. omega (arith, ints, e, sente.scaffold-over R Right q a l) })
 
 abbrev Runs : ℕ → Type 0
 Runs n = (s : Side) (a : ℕ) (xs : List Tree) (t : Turn xs) → span xs ≤ n → (v : ℤ) × Run s a xs t v

@@ -1,5 +1,4 @@
 -- From the temperature on both walls are the mean, and no figure leaves the range of the scores.
-use mathlib.Core.Path.{_≡_}
 use Prim.Native.Nat.{ℕ, _≤_}
 use native.Mathlib.Omega.{arith}
 use lib.IntN.{ℤ, pos, negℤ, _+ℤ_}
@@ -10,10 +9,10 @@ use Rattle.terms.specs.declared.side.Side.the-variants.{Left, Right}
 use Rattle.theory.specs.Limits.{wallLimit}
 use Rattle.theory.specs.Trees.{Tree, ended, branch}
 use Rattle.theory.specs.Fair.{Fair}
-use Rattle.theory.specs.Walls.{meeting, wall, scaffold, temperature, mean}
-use Rattle.theory.specs.Laws.{Walls-join, Mast, Figures-fit, Ranged}
+use Rattle.theory.specs.Walls.{meeting, wall, scaffold, temperature}
+use Rattle.theory.specs.Laws.{Walls-join, Figures-fit}
 use Rattle.theory.proofs.Search.{least-bound}
-use Rattle.theory.proofs.Meet.{Walls, walls}
+use Rattle.theory.proofs.Meet.{walls}
 use Rattle.theory.proofs.Sente.{mast, mean-left}
 
 pub walls-join : Walls-join

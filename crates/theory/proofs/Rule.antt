@@ -1,23 +1,22 @@
 -- The rule can be followed whatever they do, and makes sure of the floor.
-use mathlib.Core.List.{List, [], _∷_}
-use mathlib.Core.Logic.{_⊎_, inl, inr}
-use mathlib.Core.Path.{_≡_, refl, sym, _∙_, ap, subst}
-use Prim.Native.Nat.{ℕ, zero, suc, _+_, min, _≤_, _<_}
+use mathlib.Core.List.{List}
+use mathlib.Core.Logic.{inl, inr}
+use Prim.Native.Nat.{ℕ, zero, suc, min, _≤_, _<_}
 use native.Mathlib.Omega.{arith}
 use native.Mathlib.Decide.{decLe}
-use lib.IntN.{ℤ, pos, negℤ, _+ℤ_, _-ℤ_, _*ℤ_}
-use lib.Signed.{_≤ℤ_, _<ℤ_}
+use lib.IntN.{ℤ, pos, _*ℤ_}
+use lib.Signed.{_≤ℤ_}
 use borrow.Author.Differences.{ints}
 use Rattle.terms.specs.declared.side.Side.{Side}
 use Rattle.terms.specs.Sides.{other}
-use Rattle.theory.specs.Limits.{unit, greatestHeight, wallLimit}
-use Rattle.theory.specs.Trees.{Tree, options, Open, Ended}
+use Rattle.theory.specs.Limits.{unit}
+use Rattle.theory.specs.Trees.{Tree, Ended}
 use Rattle.theory.specs.Fair.{Fair}
 use Rattle.theory.specs.Walls.{wall, temperature}
-use Rattle.theory.specs.Sums.{Part, put, placed, sumOf, score, span, All}
-use Rattle.theory.specs.Strategies.{Ours, ends, plays, Theirs, stands, waits}
-use Rattle.theory.specs.Sente.{Turn, idle, pending, theirs, Best, wallSum, floor, Sente, anew, back, calm, any, done, Makes}
-use Rattle.theory.specs.Laws.{Rules, Rule-keeps}
+use Rattle.theory.specs.Sums.{put, placed, span, All}
+use Rattle.theory.specs.Strategies.{ends, plays, stands, waits}
+use Rattle.theory.specs.Sente.{Turn, idle, pending, theirs, floor, Sente, anew, back, calm, any, done, Makes}
+use Rattle.theory.specs.Laws.{Rule-keeps}
 use Rattle.theory.proofs.Parts.{sum-put, all-put, all-at}
 use Rattle.theory.proofs.Sente as sente
 use Rattle.theory.proofs.Plays.{keeps, their-option, floor-ended, lower, best-exists}

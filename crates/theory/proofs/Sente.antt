@@ -1,29 +1,27 @@
 -- Sentestrat: the steps, and the bounds on a sum that follow.
-use mathlib.Core.Bool.{Bool, true, false, cond}
-use mathlib.Core.List.{List, [], _∷_, _++_, map}
+use mathlib.Core.List.{List, _∷_, map}
 use mathlib.Core.Logic.{_⊎_, inl, inr}
 use mathlib.Core.Path.{_≡_, refl, sym, _∙_, ap, subst}
-use Prim.Native.Nat.{ℕ, zero, suc, _+_, min, max, _≤_, _<_, _*_, _-_}
+use Prim.Native.Nat.{ℕ, zero, suc, _+_, min, _≤_, _<_, _-_}
 use native.Mathlib.Omega.{arith}
-use native.Mathlib.Decide.{decLt, decLe}
-use lib.IntN.{ℤ, pos, negsuc, negℤ, _+ℤ_, _-ℤ_, _*ℤ_}
-use lib.Signed.{ltZ, leZ, _≤ℤ_, _<ℤ_}
+use native.Mathlib.Decide.{decLe}
+use lib.IntN.{ℤ, pos, negℤ, _+ℤ_, _-ℤ_, _*ℤ_}
+use lib.Signed.{_≤ℤ_}
 use borrow.Author.Differences.{ints}
-use Rattle.std.specs.Numbers.{maxZ, minZ}
 use Rattle.std.proofs.shelf.Signed.{clamps, by-ltZ}
 use Rattle.terms.specs.declared.side.Side.{Side}
 use Rattle.terms.specs.declared.side.Side.the-variants.{Left, Right}
-use Rattle.terms.specs.Sides.{other, own, pick}
-use Rattle.theory.specs.Limits.{unit, greatestHeight, wallLimit}
+use Rattle.terms.specs.Sides.{other}
+use Rattle.theory.specs.Limits.{unit}
 use Rattle.theory.specs.Trees.{Tree, Forest, ended, branch, one, more, height, heightF, Within, WithinF, trees, options, Open, Ended}
-use Rattle.theory.specs.Stops.{stop, stopF, Warm, WarmF}
+use Rattle.theory.specs.Stops.{stopF, Warm, WarmF}
 use Rattle.theory.specs.Fair.{Fair}
 use Rattle.theory.specs.Walls.{meeting, wall, scaffold, temperature, mean}
 use Rattle.theory.specs.Sums.{Part, here, there, put, placed, moves, sumOf, score, greatest, bestOf, span, sumStop, bestScore, hottest, All}
 use Rattle.theory.specs.Sente.{taxed, wallSum}
-use Rattle.theory.specs.Laws.{Step, Options-step, Sum-bounds}
-use Rattle.theory.proofs.Grid.{Fall, fall-within}
-use Rattle.theory.proofs.Meet.{Walls, Roof, Meets, walls, roofs, branch-meets, branch-height, one-height, more-height}
+use Rattle.theory.specs.Laws.{Options-step, Sum-bounds}
+use Rattle.theory.proofs.Grid.{fall-within}
+use Rattle.theory.proofs.Meet.{Scaffold, walls, scaffolds, branch-meets, branch-height, one-height, more-height, wall-left, wall-right}
 use Rattle.theory.proofs.Parts.{sum-put, span-put, all-put, all-at, greatest-over, move, Move, moved}
 
 -- ---- an option of a fair tree is fair, and lower
@@ -50,36 +48,28 @@ option-fair Right (branch L R) o p f =
     (omega (arith, branch-height L R), record { shallow = omega (arith, branch-height L R, f .shallow); warm = v; scores = c })
 
 -- ---- what the steps rest on
-pub roof-over : (F : Forest) (s : Side) (o : Tree) (a : ℕ) → Part o (trees F) → taxed s o a ≤ℤ scaffold F s a
+pub scaffold-over : (F : Forest) (s : Side) (o : Tree) (a : ℕ) → Part o (trees F) → taxed s o a ≤ℤ scaffold F s a
 unfolding wall
-roof-over (one x) s o a here = omega (arith, ints)
-roof-over (one x) s o a (there p) = elim p [ ]
-roof-over (more x F) s o a here = omega (arith, ints, clamps)
-roof-over (more x F) s o a (there p) = omega (arith, ints, clamps, roof-over F s o a p)
+scaffold-over (one x) s o a here = omega (arith, ints)
+scaffold-over (one x) s o a (there p) = elim p [ ]
+scaffold-over (more x F) s o a here = omega (arith, ints, clamps)
+scaffold-over (more x F) s o a (there p) = omega (arith, ints, clamps, scaffold-over F s o a p)
 
-pub roof-reached : (F : Forest) (s : Side) (a : ℕ) → (o : Tree) × Part o (trees F) × (taxed s o a ≡ scaffold F s a)
+pub scaffold-reached : (F : Forest) (s : Side) (a : ℕ) → (o : Tree) × Part o (trees F) × (taxed s o a ≡ scaffold F s a)
 unfolding wall
-roof-reached (one x) s a = (x, here, refl)
-roof-reached (more x F) s a =
-    let (o, p, e) = roof-reached F s a in
+scaffold-reached (one x) s a = (x, here, refl)
+scaffold-reached (more x F) s a =
+    let (o, p, e) = scaffold-reached F s a in
     by-ltZ (taxed s x a) (scaffold F s a) (λ h. (o, there p, omega (arith, ints, clamps))) (λ h. (x, here, omega (arith, ints, clamps)))
 
 -- a scaffold falls: from t to u, k later
-pub roof-falls : (f : ℕ → ℤ) (n : ℕ) (z : ℤ) → Roof n f z → (k t u : ℕ) → u ≡ k + t → f u ≤ℤ f t
-roof-falls f n z F zero t u e = let q : u ≡ t = omega arith in rw q (omega (arith, ints))
-roof-falls f n z F (suc k) t u e =
+pub scaffold-falls : (f : ℕ → ℤ) (n : ℕ) (z : ℤ) → Scaffold n f z → (k t u : ℕ) → u ≡ k + t → f u ≤ℤ f t
+scaffold-falls f n z F zero t u e = let q : u ≡ t = omega arith in rw q (omega (arith, ints))
+scaffold-falls f n z F (suc k) t u e =
     let q : u ≡ suc (k + t) = omega arith in
-    rw q (omega (arith, ints, roof-falls f n z F k t (k + t) refl, fall-within n (f (k + t)) (f (suc (k + t))) (k + t) (F .steps (k + t))))
+    rw q (omega (arith, ints, scaffold-falls f n z F k t (k + t) refl, fall-within n (f (k + t)) (f (suc (k + t))) (k + t) (F .steps (k + t))))
 
 -- ---- the walls of a fair tree
-wall-left : (L R : Forest) (a : ℕ) → wall (branch L R) Left a ≡ scaffold L Left (min a (temperature (branch L R)))
-unfolding wall temperature
-wall-left L R a = refl
-
-wall-right : (L R : Forest) (a : ℕ) → wall (branch L R) Right a ≡ scaffold R Right (min a (temperature (branch L R)))
-unfolding wall temperature
-wall-right L R a = refl
-
 pub both : (s : Side) (x : Tree) (a : ℕ) → Fair x → pos 0 ≤ℤ (wall x s a +ℤ wall x (other s) a)
 both Left x a f = walls x 0 (omega (arith, f .shallow)) (f .warm) (f .scores) .order a
 both Right x a f = omega (arith, ints, walls x 0 (omega (arith, f .shallow)) (f .warm) (f .scores) .order a)
@@ -112,8 +102,8 @@ flat Right (branch L R) c d h k =
     wall-right L R c ∙ ap (scaffold R Right) q ∙ sym (wall-right L R d)
 
 -- a scaffold, cut at m, is no lower than it would be at a
-cut-over : (f : ℕ → ℤ) (n : ℕ) (z : ℤ) → Roof n f z → (a m : ℕ) → f a ≤ℤ f (min a m)
-cut-over f n z F a m = roof-falls f n z F (a - min a m) (min a m) a (omega arith)
+cut-over : (f : ℕ → ℤ) (n : ℕ) (z : ℤ) → Scaffold n f z → (a m : ℕ) → f a ≤ℤ f (min a m)
+cut-over f n z F a m = scaffold-falls f n z F (a - min a m) (min a m) a (omega arith)
 
 -- (ii) no option of a side, taxed, passes that side's wall
 pub over : (s : Side) (x o : Tree) (a : ℕ) → Fair x → Part o (options x s) → taxed s o a ≤ℤ wall x s a
@@ -122,17 +112,17 @@ over Left (branch L R) o a f p =
     omega (
       arith,
       ints,
-      roof-over L Left o a p,
+      scaffold-over L Left o a p,
       wall-left L R a,
-      cut-over (scaffold L Left) 1 (stopF L Left) (roofs L 1 Left (omega (arith, branch-height L R, f .shallow)) (f .warm .1) (f .scores .0)) a (temperature (branch L R)),
+      cut-over (scaffold L Left) 1 (stopF L Left) (scaffolds L 1 Left (omega (arith, branch-height L R, f .shallow)) (f .warm .1) (f .scores .0)) a (temperature (branch L R)),
     )
 over Right (branch L R) o a f p =
     omega (
       arith,
       ints,
-      roof-over R Right o a p,
+      scaffold-over R Right o a p,
       wall-right L R a,
-      cut-over (scaffold R Right) 1 (stopF R Right) (roofs R 1 Right (omega (arith, branch-height L R, f .shallow)) (f .warm .2) (f .scores .1)) a (temperature (branch L R)),
+      cut-over (scaffold R Right) 1 (stopF R Right) (scaffolds R 1 Right (omega (arith, branch-height L R, f .shallow)) (f .warm .2) (f .scores .1)) a (temperature (branch L R)),
     )
 
 -- (i) up to the temperature, some option, taxed, reaches it
@@ -140,10 +130,10 @@ pub best : (s : Side) (x : Tree) (a : ℕ) → Open x → a ≤ temperature x �
 best s (ended v) a i h = elim i [ ]
 best Left (branch L R) a i h =
     let q : a ≡ min a (temperature (branch L R)) = omega arith in
-    let (o, p, e) = roof-reached L Left a in (o, p, e ∙ ap (scaffold L Left) q ∙ sym (wall-left L R a))
+    let (o, p, e) = scaffold-reached L Left a in (o, p, e ∙ ap (scaffold L Left) q ∙ sym (wall-left L R a))
 best Right (branch L R) a i h =
     let q : a ≡ min a (temperature (branch L R)) = omega arith in
-    let (o, p, e) = roof-reached R Right a in (o, p, e ∙ ap (scaffold R Right) q ∙ sym (wall-right L R a))
+    let (o, p, e) = scaffold-reached R Right a in (o, p, e ∙ ap (scaffold R Right) q ∙ sym (wall-right L R a))
 
 -- ---- the hottest part
 abbrev pub Cool : ℕ → Tree → Type 0

@@ -1,26 +1,23 @@
 -- The definitions in plain words agree with those in each side's own terms.
 use mathlib.Core.Bool.{Bool, true, false, cond}
-use mathlib.Core.Path.{_≡_, refl, sym, _∙_, ap, subst, fun-ext}
-use Prim.Native.Nat.{ℕ, zero, suc, _+_, min, max, _≤_, _<_, _-_}
+use mathlib.Core.Path.{_≡_, refl, sym, _∙_, ap, fun-ext}
+use Prim.Native.Nat.{ℕ, min, _≤_}
 use native.Mathlib.Omega.{arith}
-use native.Mathlib.Decide.{decLt, decLe}
+use native.Mathlib.Decide.{decLt}
 use lib.Dec.{T, ltb, lt→ltb, ltb→lt}
-use lib.IntN.{ℤ, pos, negsuc, negℤ, _+ℤ_, _-ℤ_, _*ℤ_}
-use lib.Signed.{ltZ, leZ, _≤ℤ_, _<ℤ_}
+use lib.IntN.{ℤ, pos, negℤ, _+ℤ_, _-ℤ_}
+use lib.Signed.{leZ}
 use borrow.Author.Differences.{ints}
-use Rattle.std.specs.Numbers.{maxZ, minZ}
 use Rattle.std.proofs.shelf.Signed.{clamps}
-use Rattle.terms.specs.declared.side.Side.{Side}
 use Rattle.terms.specs.declared.side.Side.the-variants.{Left, Right}
-use Rattle.terms.specs.Sides.{other}
-use Rattle.theory.specs.Limits.{unit, greatestHeight, wallLimit}
-use Rattle.theory.specs.Trees.{Tree, Forest, ended, branch, one, more, height, heightF, Within, WithinF}
-use Rattle.theory.specs.Stops.{stop, stopF, Warm, WarmF}
+use Rattle.theory.specs.Limits.{greatestHeight, wallLimit}
+use Rattle.theory.specs.Trees.{Tree, Forest, ended, branch, one, more, heightF, WithinF}
+use Rattle.theory.specs.Stops.{stop, stopF, WarmF}
 use Rattle.theory.specs.Fair.{Fair}
 use Rattle.theory.specs.Walls.{least, meeting, wall, scaffold, temperature, mean}
 use Rattle.theory.specs.Textbook.{leftStop, rightStop, greatestRight, leastLeft, lessTax, plusTax, heat, cutLeft, cutRight, bookLeft, bookRight, highest, lowest, bookTemperature, bookMean}
-use Rattle.theory.specs.Laws.{Agrees, Textbook-agrees}
-use Rattle.theory.proofs.Meet.{Meets, branch-meets, branch-height, one-height, more-height}
+use Rattle.theory.specs.Laws.{Textbook-agrees}
+use Rattle.theory.proofs.Meet.{branch-meets, branch-height, one-height, more-height}
 use Rattle.theory.proofs.Search.{by-bool}
 
 mutual

@@ -1,17 +1,16 @@
 -- The books' stops of a sum are the stops of the mover.
-use mathlib.Core.List.{List, [], _∷_}
-use mathlib.Core.Path.{_≡_, refl, _∙_, ap, fun-ext}
+use mathlib.Core.List.{List, _∷_}
+use mathlib.Core.Path.{_≡_, refl, ap, fun-ext}
 use Prim.Native.Nat.{ℕ, zero, suc}
 use native.Mathlib.Omega.{arith}
-use lib.IntN.{ℤ, pos, negℤ, _+ℤ_}
+use lib.IntN.{ℤ, negℤ}
 use borrow.Author.Differences.{ints}
-use Rattle.std.specs.Numbers.{maxZ, minZ}
 use Rattle.std.proofs.shelf.Signed.{clamps}
 use Rattle.terms.specs.declared.side.Side.the-variants.{Left, Right}
 use Rattle.theory.specs.Trees.{Tree, ended, branch}
 use Rattle.theory.specs.Sums.{moves, sumOf, score, greatest, bestOf, sumStop, span, bestScore}
 use Rattle.theory.specs.Textbook.{fewest, worstOf, leftSumStop, rightSumStop}
-use Rattle.theory.specs.Laws.{Textbook-sums-agree, SumAgrees}
+use Rattle.theory.specs.Laws.{Textbook-sums-agree}
 
 score-turned : (xs : List Tree) → sumOf (score Left) xs ≡ negℤ (sumOf (score Right) xs)
 score-turned [] = refl

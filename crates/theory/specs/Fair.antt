@@ -1,5 +1,5 @@
 -- The trees that have a thermograph on whole units.
-use Prim.Native.Nat.{ℕ, _≤_}
+use Prim.Native.Nat.{_≤_}
 use Rattle.theory.specs.Limits.{greatestHeight}
 use Rattle.theory.specs.Trees.{Tree, height, Within}
 use Rattle.theory.specs.Stops.{Warm}

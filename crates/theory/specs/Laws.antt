@@ -1,8 +1,8 @@
 -- The laws of hot sums. Each stands in the contract of a function of this crate, so each is proved.
 use mathlib.Core.Bool.{true, false}
-use mathlib.Core.List.{List, [], _∷_}
+use mathlib.Core.List.{List, _∷_}
 use mathlib.Core.Path.{_≡_}
-use Prim.Native.Nat.{ℕ, suc, min, _+_, _%_, _≤_, _<_}
+use Prim.Native.Nat.{ℕ, suc, min, _%_, _≤_, _<_}
 use lib.IntN.{ℤ, pos, negℤ, _+ℤ_, _-ℤ_, _*ℤ_}
 use lib.ListN.{length}
 use lib.Signed.{_≤ℤ_, _<ℤ_}
@@ -43,10 +43,12 @@ pub record Slopes (x : Tree) : Type 0 where
 abbrev pub Walls-slope : Type 0
 Walls-slope = (x : Tree) → Fair x → Slopes x
 
--- the scaffolds are equal at the temperature, and before it the left one is above
+-- the scaffolds are equal at the temperature, and before it the left one is above; up to it they are the walls
 pub record Meet (L R : Forest) : Type 0 where
   pub equal : leftScaffold L (temperature (branch L R)) ≡ rightScaffold R (temperature (branch L R))
   pub before : (t : ℕ) → t < temperature (branch L R) → rightScaffold R t <ℤ leftScaffold L t
+  pub left : (t : ℕ) → t ≤ temperature (branch L R) → leftWall (branch L R) t ≡ leftScaffold L t
+  pub right : (t : ℕ) → t ≤ temperature (branch L R) → rightWall (branch L R) t ≡ rightScaffold R t
 
 abbrev pub Scaffolds-meet : Type 0
 Scaffolds-meet = (L R : Forest) → Fair (branch L R) → Meet L R

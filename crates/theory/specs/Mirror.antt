@@ -1,5 +1,5 @@
 -- The mirror of a tree: scores negated and sides exchanged.
-use lib.IntN.{ℤ, negℤ}
+use lib.IntN.{negℤ}
 use Rattle.theory.specs.Trees.{Tree, Forest, ended, branch, one, more}
 
 unfoldable mutual

@@ -1,5 +1,5 @@
 -- Sentestrat: answer where the other has made a threat, else move in the hottest part; and the floor that this makes sure of.
-use mathlib.Core.List.{List, [], _∷_}
+use mathlib.Core.List.{List}
 use Prim.Native.Nat.{ℕ, min, _≤_, _<_}
 use lib.IntN.{ℤ, pos, negℤ, _+ℤ_, _-ℤ_}
 use lib.Signed.{_≤ℤ_}

@@ -1,13 +1,12 @@
 -- A sum: trees side by side, any number of them. The mover picks an open tree and one of his options there.
-use mathlib.Core.List.{List, [], _∷_, _++_, map}
+use mathlib.Core.List.{List, _∷_, _++_, map}
 use Prim.Native.Nat.{ℕ, zero, suc, _+_, max}
-use lib.IntN.{ℤ, pos, negℤ, _+ℤ_, _-ℤ_, _*ℤ_}
+use lib.IntN.{ℤ, pos, negℤ, _+ℤ_, _-ℤ_}
 use Rattle.std.specs.Numbers.{maxZ}
 use Rattle.terms.specs.declared.side.Side.{Side}
 use Rattle.terms.specs.declared.side.Side.the-variants.{Left, Right}
 use Rattle.terms.specs.Sides.{other, own}
-use Rattle.theory.specs.Limits.{unit}
-use Rattle.theory.specs.Trees.{Tree, Forest, ended, branch, options, height}
+use Rattle.theory.specs.Trees.{Tree, ended, branch, options, height}
 use Rattle.theory.specs.Walls.{temperature, mean}
 
 -- x stands in the list, at this place

@@ -1,4 +1,4 @@
-use Rattle.theory.proofs.More as shown
+use Rattle.theory.proofs.Single as shown
 use Rattle.theory.proofs.laws.alone.Needs as need
 
 pub returns : need.returns

@@ -1,4 +1,4 @@
-use Rattle.theory.proofs.More as shown
+use Rattle.theory.proofs.Floors as shown
 use Rattle.theory.proofs.laws.floor_is_sure.Needs as need
 
 pub returns : need.returns

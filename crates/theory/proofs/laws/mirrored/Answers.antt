@@ -1,4 +1,4 @@
-use Rattle.theory.proofs.More as shown
+use Rattle.theory.proofs.Mirror as shown
 use Rattle.theory.proofs.laws.mirrored.Needs as need
 
 pub returns : need.returns
