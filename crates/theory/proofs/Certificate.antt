@@ -1,6 +1,6 @@
 -- Certificates: what a note says of its tree's temperatures, walls and corners is so.
 use mathlib.Core.Bool.{Bool, true, false, not, cond, _&&_}
-use mathlib.Core.List.{List, _∷_}
+use mathlib.Core.List.{List, [], _∷_}
 use mathlib.Core.Logic.{inl, inr}
 use mathlib.Core.Path.{_≡_, refl, sym, _∙_, ap, subst, fun-ext}
 use Prim.Native.Nat.{ℕ, zero, suc, _+_, min, _≤_, _<_, _-_, _%_}

@@ -1,7 +1,7 @@
 -- Certificates: a tree with its temperatures written at the nodes. A short computation, without the search, shows that they are right;
 -- means, walls and corners then follow from them.
 use mathlib.Core.Bool.{Bool, true, not, cond, _&&_}
-use mathlib.Core.List.{List, _∷_}
+use mathlib.Core.List.{List, [], _∷_}
 use mathlib.Core.Path.{_≡_}
 use Prim.Native.Nat.{ℕ, zero, suc, min, _-_, _%_}
 use lib.Dec.{T, leb, ltb, eqb}

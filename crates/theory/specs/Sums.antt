@@ -1,5 +1,5 @@
 -- A sum: trees side by side, any number of them. The mover picks an open tree and one of his options there.
-use mathlib.Core.List.{List, _∷_, _++_, map}
+use mathlib.Core.List.{List, [], _∷_, _++_, map}
 use Prim.Native.Nat.{ℕ, zero, suc, _+_, max}
 use lib.IntN.{ℤ, pos, negℤ, _+ℤ_, _-ℤ_}
 use Rattle.std.specs.Numbers.{maxZ}

@@ -1,5 +1,5 @@
 -- Positions as finite trees: an ended one has a score in points, an open one has options for Left and for Right, at least one each.
-use mathlib.Core.List.{List, _∷_}
+use mathlib.Core.List.{List, [], _∷_}
 use Prim.Native.Nat.{ℕ, zero, suc, _+_, max, _≤_}
 use lib.IntN.{ℤ, pos, negℤ}
 use lib.ListN.{length}
