@@ -10,12 +10,12 @@ use Rattle.terms.specs.declared.side.Side.{Side}
 use Rattle.terms.specs.declared.side.Side.the-variants.{Left, Right}
 use Rattle.terms.specs.Sides.{other, own}
 use Rattle.theory.specs.Limits.{unit, greatestHeight, wallLimit}
-use Rattle.theory.specs.Trees.{Tree, Forest, branch, options, Open, Ended, Lawful, height}
+use Rattle.theory.specs.Trees.{Tree, Forest, branch, options, Open, Lawful, height}
 use Rattle.theory.specs.Stops.{stop, Warm, cold}
 use Rattle.theory.specs.Fair.{Fair}
 use Rattle.theory.specs.Walls.{wall, temperature, mean, leftWall, rightWall, leftScaffold, rightScaffold}
 use Rattle.theory.specs.Corners.{In, Ordered, Corners, rising, falling, cornersOf}
-use Rattle.theory.specs.Sums.{Part, put, placed, All, sumOf, score, sumStop, span, bestScore, hottest, low, high}
+use Rattle.theory.specs.Sums.{Part, put, placed, All, sumOf, sumStop, span, bestScore, hottest, low, high, Over, total}
 use Rattle.theory.specs.Strategies.{Ours, Theirs}
 use Rattle.theory.specs.Sente.{taxed, Best, Turn, idle, pending, theirs, floor, Run, Sente, Makes}
 use Rattle.theory.specs.Mirror.{mirror}
@@ -149,8 +149,8 @@ pub record Kept (s : Side) (a : ℕ) (xs : List Tree) : Type 0 where
   -- the ambient may fall to any temperature that no part passes
   pub cool : (c : ℕ) → hottest xs ≤ c → floor s (min a c) xs idle ≡ floor s a xs idle
   -- when all is over it is no more than the score
-  pub over : (t : Turn xs) → All Ended xs → floor s a xs t ≤ℤ (pos unit *ℤ sumOf (score s) xs)
-  pub ended : All Ended xs → floor s a xs idle ≡ (pos unit *ℤ sumOf (score s) xs)
+  pub over : (t : Turn xs) → Over xs → floor s a xs t ≤ℤ (pos unit *ℤ total s xs)
+  pub ended : Over xs → floor s a xs idle ≡ (pos unit *ℤ total s xs)
 
 abbrev pub Floor-never-falls : Type 0
 Floor-never-falls = (s : Side) (a : ℕ) (xs : List Tree) → All Fair xs → Kept s a xs

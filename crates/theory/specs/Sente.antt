@@ -5,9 +5,9 @@ use lib.IntN.{ℤ, pos, negℤ, _+ℤ_, _-ℤ_}
 use lib.Signed.{_≤ℤ_}
 use Rattle.terms.specs.declared.side.Side.{Side}
 use Rattle.terms.specs.Sides.{other}
-use Rattle.theory.specs.Trees.{Tree, options, Open, Ended}
+use Rattle.theory.specs.Trees.{Tree, options, Open}
 use Rattle.theory.specs.Walls.{wall, temperature}
-use Rattle.theory.specs.Sums.{Part, put, placed, All, sumOf, score}
+use Rattle.theory.specs.Sums.{Part, put, placed, All, sumOf, Over, total}
 use Rattle.theory.specs.Strategies.{Ours, Theirs}
 
 -- an option o of the side s: its wall on the other side, in the terms of s, less the tax
@@ -49,7 +49,7 @@ pub data Run (s : Side) : (a : ℕ) (xs : List Tree) → Turn xs → ℤ → Typ
   moves : {a : ℕ} {xs : List Tree} {v : ℤ} {x : Tree} (p : Part x xs) (o : Tree) → Part o (options x (other s))
       → Run s a (put p o) (pending (placed p o)) v → Run s a xs theirs v
   -- nothing is open
-  over : {a : ℕ} {xs : List Tree} (t : Turn xs) → All Ended xs → Run s a xs t (sumOf (score s) xs)
+  over : {a : ℕ} {xs : List Tree} (t : Turn xs) → Over xs → Run s a xs t (total s xs)
 
 -- the rule as a strategy: our moves are the rule's, and there is an answer to each move of theirs
 pub data Sente (s : Side) : (a : ℕ) (xs : List Tree) → Turn xs → Type 0 where
@@ -60,7 +60,7 @@ pub data Sente (s : Side) : (a : ℕ) (xs : List Tree) → Turn xs → Type 0 wh
   calm : {a : ℕ} {xs : List Tree} {x : Tree} (p : Part x xs) → temperature x ≤ a → Sente s a xs idle → Sente s a xs (pending p)
   any : {a : ℕ} {xs : List Tree} {x : Tree} → Part x xs → Open x
       → ((y : Tree) (p : Part y xs) (o : Tree) → Part o (options y (other s)) → Sente s a (put p o) (pending (placed p o))) → Sente s a xs theirs
-  done : {a : ℕ} {xs : List Tree} (t : Turn xs) → All Ended xs → Sente s a xs t
+  done : {a : ℕ} {xs : List Tree} (t : Turn xs) → Over xs → Sente s a xs t
 
 -- the side s can make sure of v from this turn on
 abbrev pub Makes : Side → ℤ → (xs : List Tree) → Turn xs → Type 0

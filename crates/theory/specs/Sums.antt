@@ -6,7 +6,7 @@ use Rattle.std.specs.Numbers.{maxZ}
 use Rattle.terms.specs.declared.side.Side.{Side}
 use Rattle.terms.specs.declared.side.Side.the-variants.{Left, Right}
 use Rattle.terms.specs.Sides.{other, own}
-use Rattle.theory.specs.Trees.{Tree, ended, branch, options, height}
+use Rattle.theory.specs.Trees.{Tree, ended, branch, options, Ended, height}
 use Rattle.theory.specs.Walls.{temperature, mean}
 
 -- x stands in the list, at this place
@@ -43,6 +43,14 @@ abbrev pub score : Side → Tree → ℤ
 score s (ended v) = own s v
 score s (branch L R) = pos 0
 
+-- a sum is over when all its trees have ended
+abbrev pub Over : List Tree → Type 0
+Over xs = All Ended xs
+
+-- its score then, as the side counts it
+abbrev pub total : Side → List Tree → ℤ
+total s xs = sumOf (score s) xs
+
 -- the greatest value of f
 abbrev pub greatest : {A : Type 0} → (A → ℤ) → A → List A → ℤ
 greatest f x [] = f x
@@ -55,8 +63,8 @@ bestOf f z (x ∷ xs) = greatest f x xs
 
 -- best play of at most n moves, in the terms of the side that moves first
 unfoldable pub sumStop : ℕ → Side → List Tree → ℤ
-sumStop zero s xs = sumOf (score s) xs
-sumStop (suc n) s xs = bestOf (λ ys. negℤ (sumStop n (other s) ys)) (sumOf (score s) xs) (moves s xs)
+sumStop zero s xs = total s xs
+sumStop (suc n) s xs = bestOf (λ ys. negℤ (sumStop n (other s) ys)) (total s xs) (moves s xs)
 
 -- no play of the sum has more moves
 abbrev pub span : List Tree → ℕ

@@ -10,7 +10,7 @@ use Rattle.terms.specs.declared.side.Side.the-variants.{Left, Right}
 use Rattle.theory.specs.Limits.{unit, wallLimit}
 use Rattle.theory.specs.Trees.{Tree, Forest, ended, branch, one, more}
 use Rattle.theory.specs.Walls.{least}
-use Rattle.theory.specs.Sums.{moves, sumOf, score, bestOf}
+use Rattle.theory.specs.Sums.{moves, bestOf, total}
 
 -- the Left stop is the greatest Right stop among Left's options, the Right stop the least Left stop among Right's
 unfoldable mutual
@@ -85,9 +85,9 @@ worstOf f z (x ∷ xs) = fewest f x xs
 -- the stops of a sum within n moves, for Left
 unfoldable mutual
   pub leftSumStop : ℕ → List Tree → ℤ
-  leftSumStop zero xs = sumOf (score Left) xs
-  leftSumStop (suc n) xs = bestOf (rightSumStop n) (sumOf (score Left) xs) (moves Left xs)
+  leftSumStop zero xs = total Left xs
+  leftSumStop (suc n) xs = bestOf (rightSumStop n) (total Left xs) (moves Left xs)
 
   pub rightSumStop : ℕ → List Tree → ℤ
-  rightSumStop zero xs = sumOf (score Left) xs
-  rightSumStop (suc n) xs = worstOf (leftSumStop n) (sumOf (score Left) xs) (moves Right xs)
+  rightSumStop zero xs = total Left xs
+  rightSumStop (suc n) xs = worstOf (leftSumStop n) (total Left xs) (moves Right xs)
