@@ -16,3 +16,4 @@ pub mod Rising
 pub mod Corners
 pub mod Certificate
 pub mod Figures
+pub mod Clauses
