@@ -1,3 +1,14 @@
 pub mod Limits
 pub mod Trees
 pub mod Stops
+pub mod Fair
+pub mod Walls
+pub mod Sums
+pub mod Strategies
+pub mod Sente
+pub mod Mirror
+pub mod Textbook
+pub mod Corners
+pub mod Laws
+pub mod Notes
+pub mod Figures

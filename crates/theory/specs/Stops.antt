@@ -1,5 +1,5 @@
 -- Stops: what a side gets, in its own terms, if it moves first and both play in this tree only.
-use mathlib.Core.Bool.{Bool, true, false, _||_}
+use mathlib.Core.Bool.{Bool, false, _||_}
 use lib.IntN.{ℤ, pos, negℤ, _+ℤ_}
 use lib.Signed.{ltZ, _≤ℤ_}
 use Rattle.std.specs.Numbers.{maxZ}

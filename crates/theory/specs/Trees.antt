@@ -1,5 +1,5 @@
 -- Positions as finite trees: an ended one has a score in points, an open one has options for Left and for Right, at least one each.
-use mathlib.Core.List.{List, [], _∷_, _++_}
+use mathlib.Core.List.{List, [], _∷_}
 use Prim.Native.Nat.{ℕ, zero, suc, _+_, max, _≤_}
 use lib.IntN.{ℤ, pos, negℤ}
 use lib.ListN.{length}
@@ -7,7 +7,6 @@ use lib.Signed.{_≤ℤ_}
 use Rattle.std.specs.declared.option.Option.{Option}
 use Rattle.std.specs.declared.option.Option.the-variants.{Some, None}
 use Rattle.terms.specs.declared.side.Side.{Side}
-use Rattle.terms.specs.declared.side.Side.the-variants.{Left, Right}
 use Rattle.terms.specs.Sides.{pick}
 use Rattle.theory.specs.Limits.{scoreLimit, optionLimit}
 
@@ -59,6 +58,16 @@ abbrev mutual
   pub LawfulF : Forest → Type 0
   LawfulF (one x) = Lawful x
   LawfulF (more x F) = Lawful x × LawfulF F
+
+-- every score is within its limit
+abbrev mutual
+  pub Within : Tree → Type 0
+  Within (ended v) = Score v
+  Within (branch L R) = WithinF L × WithinF R
+
+  pub WithinF : Forest → Type 0
+  WithinF (one x) = Within x
+  WithinF (more x F) = Within x × WithinF F
 
 -- the longest number of moves
 unfoldable mutual
