@@ -46,6 +46,11 @@ count-is f (ended v) Right = refl
 count-is f (branch L R) Left = refl
 count-is f (branch L R) Right = refl
 
+-- a sound row has each side's options among the rows
+pub side-inside : (n : ℕ) (x : Shape) (s : Side) → Sound-row n x → start-of x s + count-of x s ≤ n
+side-inside n x Left h = omega (arith, h .inside)
+side-inside n x Right h = omega (arith, h .inside)
+
 -- each side's options, among those of both
 pub child-of : (f : ℕ) (x : Tree) (s : Side) (k : ℕ) → k < length (options x s)
     → (j : ℕ) × (start-of (shape-of f x) s + k ≡ f + j) × (j < length (children x)) × (getD (children x) j none ≡ getD (options x s) k none)
