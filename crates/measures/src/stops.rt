@@ -62,7 +62,7 @@ fn stop_of(shape: Shape, side: Side, others: &[i16]) -> i16
     }
 }
 
-// Whether moving first hurts: what Left gets first is below what is left to him if Right is first.
+// Whether a position with these stops, each in its side's own terms, is cold.
 fn hurts(left: i16, right: i16) -> bool
     requires left { ⌜ Score left ⌝ }
     requires right { ⌜ Score right ⌝ }
