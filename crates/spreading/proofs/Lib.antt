@@ -4,3 +4,4 @@ pub mod Everywhere
 pub mod Shapes
 pub mod Passes
 pub mod Spreads
+pub mod Taken

@@ -46,6 +46,11 @@ abbrev pub Spread-into : Tree → List Shape → Option ℕ → List Shape → T
 Spread-into t free None after = length free < size t
 Spread-into t free (Some n) after = (n ≡ size t) × (n ≤ length free) × (after ≡ shapes-of t ++ drop n free)
 
+-- the rows taken are no more than there are
+abbrev pub Taken : List Shape → Option ℕ → Type 0
+Taken free None = Unit {0}
+Taken free (Some n) = n ≤ length free
+
 -- the codes stand for the trees, in their order
 abbrev pub Stand : (ℕ → Option Tree) → List ℕ → List Tree → Type 0
 Stand tree codes xs = (k : ℕ) → k < length xs → tree (getD codes k 0) ≡ Some (getD xs k none)

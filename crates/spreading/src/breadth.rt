@@ -7,7 +7,7 @@ ghost use Rattle.std.specs.declared.option.Option.the-variants.{Some};
 ghost use Rattle.theory.specs.Trees.{Tree, options as optionsOf};
 ghost use Rattle.rules.specs.Meaning.{known-in};
 ghost use Rattle.spreading.specs.Laws.{Rows-in-order};
-ghost use Rattle.spreading.specs.Shapes.{rowLimit, blank, shape-of, Stand, Spread-into};
+ghost use Rattle.spreading.specs.Shapes.{rowLimit, blank, shape-of, Stand, Taken, Spread-into};
 use crate::shape::BLANK;
 use crate::shape::Kind;
 use crate::shape::Shape;
@@ -64,7 +64,8 @@ pub fn spread<R: RuleSet>(
     requires known { ⌜ known-in (tree (now rules) code) ≡ true ⌝ }
     requires few { ⌜ length (now free) ≤ rowLimit ⌝ }
     requires scratch { ⌜ length (now free) ≤ length (now codes) ⌝ }
-    ensures { λ r. ⌜ ((t : Tree) → tree (now (rules .entry)) code ≡ Some t → Spread-into t (now (free .entry)) r (now (free .exit))) ⌝ }
+    ensures taken { λ r. ⌜ Taken (now (free .entry)) r ⌝ }
+    ensures rows { λ r. ⌜ ((t : Tree) → tree (now (rules .entry)) code ≡ Some t → Spread-into t (now (free .entry)) r (now (free .exit))) ⌝ }
 {
     if free.len() == 0 {
         return None;

@@ -22,7 +22,7 @@ loop-k-again g c t xs e many len h =
       | in-Some w ↦
           subst (λ l. Stand tree l (xs ++ take (c .loop-k .k + 1) (options t (c .args .side)))) (sym (w .codes-is))
           (stand-more tree (c .args .code) (c .loop-k .codes) xs t (c .args .side) (c .args .from) (c .loop-k .k) _ e len here room (w .in-Some .ensures tt .0) (c .loop-k .inv t xs e many len h))
-      | in-rest w ↦ absurd (not-missing tree (c .args .code) t (c .args .side) (c .loop-k .k) e here (w .in-rest .ensures tt))
+      | in-rest w ↦ absurd {A = Stand tree (c .match-option .codes) (xs ++ take (c .loop-k .k + 1) (options t (c .args .side)))} (not-missing tree (c .args .code) t (c .args .side) (c .loop-k .k) e here (w .in-rest .ensures tt))
     ]
 
 pub returns : need.returns

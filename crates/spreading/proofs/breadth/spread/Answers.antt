@@ -18,14 +18,20 @@ loop-i-again g c = (
 )
 
 pub returns-then-free-eq0 : need.returns-then-free-eq0
-returns-then-free-eq0 g c t e = omega (arith, size-children t)
+returns-then-free-eq0 g c = record { taken = tt; rows = λ t e. omega (arith, size-children t) }
 
 pub returns-then-free-n : need.returns-then-free-n
-returns-then-free-n g c t e =
-    grown-over (g .R·RuleSet .tree (c .args .rules .now)) t (c .loop-i .i) (c .loop-i .n) _ (c .loop-i .codes) (c .loop-i .free) _
-    (omega arith) (c .loop-i .inv .3 t e) (c .shape-of-shape .ensures) (omega arith)
+returns-then-free-n g c = record {
+  taken = tt;
+  rows = λ t e.
+      grown-over (g .R·RuleSet .tree (c .args .rules .now)) t (c .loop-i .i) (c .loop-i .n) _ (c .loop-i .codes) (c .loop-i .free) _
+      (omega arith) (c .loop-i .inv .3 t e) (c .shape-of-shape .ensures) (omega arith);
+}
 
 pub returns : need.returns
-returns g c t e =
-    grown-end (g .R·RuleSet .tree (c .args .rules .now)) t (c .loop-i .i) (c .loop-i .n) (c .loop-i .codes) (c .args .free .now) (c .loop-i .free)
-    (omega arith) (c .loop-i .inv .0) (omega arith) (c .loop-i .inv .3 t e) (c .loop-i .inv .2)
+returns g c = record {
+  taken = c .loop-i .inv .0;
+  rows = λ t e.
+      grown-end (g .R·RuleSet .tree (c .args .rules .now)) t (c .loop-i .i) (c .loop-i .n) (c .loop-i .codes) (c .args .free .now) (c .loop-i .free)
+      (omega arith) (c .loop-i .inv .0) (omega arith) (c .loop-i .inv .3 t e) (c .loop-i .inv .2);
+}
