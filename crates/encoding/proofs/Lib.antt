@@ -1,0 +1,4 @@
+pub mod Columns
+pub mod Decoding
+pub mod Holding
+pub mod Contents
