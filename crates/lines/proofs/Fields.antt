@@ -107,7 +107,7 @@ with-value-ok : (o : Option (List ℕ × List ℕ)) (r : List ℕ) (n : ℕ) (q 
 with-value-ok None r n q t e = err-ok e
 with-value-ok (Some (w, v)) r n q t e = (w, v, refl, e)
 
-with-end-ok : (o : Option (List ℕ × List ℕ)) (n : ℕ) (q : Said) (t : State) → with-end o n ≡ Ok (q, t) → (l r : List ℕ) × (o ≡ Some (l, r)) × (with-value (cut 61 l) r n ≡ Ok (q, t))
+pub with-end-ok : (o : Option (List ℕ × List ℕ)) (n : ℕ) (q : Said) (t : State) → with-end o n ≡ Ok (q, t) → (l r : List ℕ) × (o ≡ Some (l, r)) × (with-value (cut 61 l) r n ≡ Ok (q, t))
 with-end-ok None n q t e = err-ok e
 with-end-ok (Some (l, r)) n q t e = (l, r, refl, e)
 
@@ -166,7 +166,7 @@ field-sound k s v n t e =
 pub field-complete : (k : Key) (v r : List ℕ) (n : ℕ) → Clear 10 v → field k (at ((name k ++ codes "=") ++ (v ++ (10 ∷ r))) n) ≡ Ok ((v, n), at r (n + 1))
 field-complete k v r n c = next-field (at ((name k ++ codes "=") ++ (v ++ (10 ∷ r))) n) (said k v n) (at r (n + 1)) (next-complete k v r n c) .0
 
-field-next : (k : Key) (s : State) (v : List ℕ) (n : ℕ) (t : State) → field k s ≡ Ok ((v, n), t) → (r : State) × (next s ≡ Ok (said k v (s .line), r))
+pub field-next : (k : Key) (s : State) (v : List ℕ) (n : ℕ) (t : State) → field k s ≡ Ok ((v, n), t) → (r : State) × (next s ≡ Ok (said k v (s .line), r))
 field-next k s v n t e =
     let f = field-sound k s v n t e in
     (at (t .rest) (s .line + 1), ap (λ x. next (at x (s .line))) (f .1) ∙ next-complete k v (t .rest) (s .line) (f .0))

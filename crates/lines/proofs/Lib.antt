@@ -4,3 +4,4 @@ pub mod Fields
 pub mod Laws
 pub mod Counts
 pub mod Commas
+pub mod Turns

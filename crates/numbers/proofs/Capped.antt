@@ -1,4 +1,4 @@
-use mathlib.Core.Path.{_≡_, refl, ap, sym, _∙_}
+use mathlib.Core.Path.{_≡_, refl, ap, sym, _∙_, subst}
 use mathlib.Core.List.{List, [], _∷_}
 use mathlib.Core.Logic.{_⊎_, inl, inr}
 use mathlib.Core.Bool.{Bool, true, false, cond}
@@ -9,7 +9,9 @@ use lib.ListN.{length, drop, getD}
 use Rattle.std.proofs.shelf.Ways.{tells}
 use Rattle.std.proofs.shelf.Tests.{cond-true, cond-false, ne-eqb, eq-eqb, leb-true, leb-false, le-leb, lt-leb, ltb-true, ltb-false}
 use lib.Dec.{eqb, leb, ltb}
-use Rattle.numbers.proofs.Written.{digit-from}
+use Rattle.std.proofs.shelf.Signed.{ints}
+use lib.Signed.{_≤ℤ_}
+use Rattle.numbers.proofs.Written.{digit-from, none-some}
 use Rattle.std.proofs.shelf.Lists.{at-drop-more, at-drop-all}
 use Rattle.std.specs.declared.option.Option.the-variants.{Some, None}
 use Rattle.numbers.specs.Numbers.{after, natural, capped, digit, at-most, upto, in-range, within, below-zero, above-zero, integer, judged}
@@ -105,3 +107,20 @@ minus-goes m line n xs h q r = ap (λ o. judged o line) (within-minus m xs h q �
 pub below-pos : (n : ℕ) → 0 < n → below-zero (Some n) ≡ Some (negℤ (pos n))
 below-pos zero h = absurd (omega arith)
 below-pos (suc n) h = refl
+
+-- what is read within a range lies in it
+in-range-small : (m : ℕ) (o : Option ℤ) (z : ℤ) → in-range m o ≡ Some z → (negℤ (pos m) ≤ℤ z) × (z ≤ℤ pos m)
+in-range-small m None z e = none-some e
+in-range-small m (Some (pos n)) z e = go (leb n m) refl e
+  where
+    go : (t : Bool) → leb n m ≡ t → cond t (Some (pos n)) None ≡ Some z → (negℤ (pos m) ≤ℤ z) × (z ≤ℤ pos m)
+    go true t e = let q : pos n ≡ z = cc in let h = leb-true n m t in subst (λ y. (negℤ (pos m) ≤ℤ y) × (y ≤ℤ pos m)) q (omega (arith, ints), omega (arith, ints))
+    go false t e = none-some e
+in-range-small m (Some (negsuc n)) z e = go (ltb n m) refl e
+  where
+    go : (t : Bool) → ltb n m ≡ t → cond t (Some (negsuc n)) None ≡ Some z → (negℤ (pos m) ≤ℤ z) × (z ≤ℤ pos m)
+    go true t e = let q : negsuc n ≡ z = cc in let h = ltb-true n m t in subst (λ y. (negℤ (pos m) ≤ℤ y) × (y ≤ℤ pos m)) q (omega (arith, ints), omega (arith, ints))
+    go false t e = none-some e
+
+pub within-small : (m line : ℕ) (text : List ℕ) (z : ℤ) → Ok z ≡ judged (within m text) line → (negℤ (pos m) ≤ℤ z) × (z ≤ℤ pos m)
+within-small m line text z e = in-range-small m (integer text) z (judged-ok (within m text) line z e)

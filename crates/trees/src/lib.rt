@@ -6,6 +6,7 @@ mod row;
 pub use lent::Trees;
 pub use lent::TreesRules;
 pub use row::BLANK_ROW;
+pub use row::EMPTY_RUN;
 pub use row::PICK_LIMIT;
 pub use row::PickRun;
 pub use row::ROW_LIMIT;
