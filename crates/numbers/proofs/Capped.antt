@@ -109,7 +109,7 @@ below-pos zero h = absurd (omega arith)
 below-pos (suc n) h = refl
 
 -- what is read within a range lies in it
-in-range-small : (m : ℕ) (o : Option ℤ) (z : ℤ) → in-range m o ≡ Some z → (negℤ (pos m) ≤ℤ z) × (z ≤ℤ pos m)
+pub in-range-small : (m : ℕ) (o : Option ℤ) (z : ℤ) → in-range m o ≡ Some z → (negℤ (pos m) ≤ℤ z) × (z ≤ℤ pos m)
 in-range-small m None z e = none-some e
 in-range-small m (Some (pos n)) z e = go (leb n m) refl e
   where
@@ -124,3 +124,16 @@ in-range-small m (Some (negsuc n)) z e = go (ltb n m) refl e
 
 pub within-small : (m line : ℕ) (text : List ℕ) (z : ℤ) → Ok z ≡ judged (within m text) line → (negℤ (pos m) ≤ℤ z) × (z ≤ℤ pos m)
 within-small m line text z e = in-range-small m (integer text) z (judged-ok (within m text) line z e)
+
+pub in-range-is : (m : ℕ) (o : Option ℤ) (z : ℤ) → in-range m o ≡ Some z → o ≡ Some z
+in-range-is m None z e = none-some e
+in-range-is m (Some (pos n)) z e = go (leb n m) e
+  where
+    go : (t : Bool) → cond t (Some (pos n)) None ≡ Some z → Some (pos n) ≡ Some z
+    go true e = e
+    go false e = none-some e
+in-range-is m (Some (negsuc n)) z e = go (ltb n m) e
+  where
+    go : (t : Bool) → cond t (Some (negsuc n)) None ≡ Some z → Some (negsuc n) ≡ Some z
+    go true e = e
+    go false e = none-some e

@@ -6,3 +6,5 @@ mod place;
 mod row;
 mod row_lines;
 mod tree;
+
+pub use tree::read_tree;
