@@ -73,7 +73,7 @@ points-whole = record
 abbrev Whole-edge : Edge → Type 0
 Whole-edge e = e .from ≤ e .to
 
-pair-some : (o p : Option ℕ) (e : Edge) → pair-of o p ≡ Some e → Whole-edge e × (o ≡ Some (e .from)) × (p ≡ Some (e .to))
+pub pair-some : (o p : Option ℕ) (e : Edge) → pair-of o p ≡ Some e → Whole-edge e × (o ≡ Some (e .from)) × (p ≡ Some (e .to))
 pair-some None p e q = none-some q
 pair-some (Some a) None e q = none-some q
 pair-some (Some a) (Some b) e q = go (leb a b) refl q
