@@ -75,11 +75,11 @@ module _ (last : Option Pair) (p q : Pair) (o : Option Edge) (f : Edge) (is : la
       (λ i. after-edge ((ap last-said is ∙ d .1) i) (b i))
       ∙ ap (λ t. cond t (Some f) None) (sym (order (now (p .from)) (now (p .to)) (now (q .from)) (now (q .to)) (d .0) f (d .1) c))
 
-  pub next-wrong : before-text p q ≡ false → after-edge (last-said last) o ≡ None
-  next-wrong t = after-by-text ∙ ap (λ t. cond t (Some f) None) t
+  pub next-wrong : false ≡ before-text p q → after-edge (last-said last) o ≡ None
+  next-wrong t = after-by-text ∙ ap (λ t. cond t (Some f) None) (sym t)
 
-  pub next-right : before-text p q ≡ true → after-edge (last-said last) o ≡ Some f
-  next-right t = after-by-text ∙ ap (λ t. cond t (Some f) None) t
+  pub next-right : true ≡ before-text p q → after-edge (last-said last) o ≡ Some f
+  next-right t = after-by-text ∙ ap (λ t. cond t (Some f) None) (sym t)
 
 -- the turns of the loop over the pieces
 goes-more : (o : Option Edge) (l : List ℕ) (ls : List (List ℕ)) (e : Edge) → after-edge o (edge-of l) ≡ Some e → goes-on o (all-of edge-of (l ∷ ls)) ≡ goes-on (Some e) (all-of edge-of ls)

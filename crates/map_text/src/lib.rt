@@ -4,6 +4,7 @@ ghost use Rattle.map_text.specs.Laws.{Map-exact};
 
 mod edges;
 mod pair;
+mod points;
 
 // A map is read just where it is written.
 pub fn maps_are_their_texts()
