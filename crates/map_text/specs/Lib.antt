@@ -1,0 +1,4 @@
+pub mod Maps
+pub mod Laws
+pub mod Held
+pub mod Pairs
