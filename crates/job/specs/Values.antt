@@ -13,6 +13,7 @@ use Rattle.terms.specs.declared.side.Mover.the-variants.{Ours, Theirs}
 use Rattle.numbers.specs.Numbers.{upto}
 use Rattle.lines.specs.Reading.{cut}
 use Rattle.job.specs.declared.moves.Move.{Move}
+use Rattle.job.specs.Grammar.{Kind, tree-rules, snort-rules, lastPart, lastOption}
 
 abbrev pub side-of : List ℕ → Option Side
 side-of v = cond (sameBytes v (codes "left")) (Some Left) (cond (sameBytes v (codes "right")) (Some Right) None)
@@ -27,8 +28,11 @@ both-of (Some p) (Some o) = Some (record { part = p; option = o })
 
 abbrev pub move-parts : Option (List ℕ × List ℕ) → Option Move
 move-parts None = None
-move-parts (Some (l, r)) = both-of (upto 7 l) (upto 15 r)
+move-parts (Some (l, r)) = both-of (upto lastPart l) (upto lastOption r)
 
 -- part,option
 abbrev pub move-of : List ℕ → Option Move
 move-of v = move-parts (cut 44 v)
+
+abbrev pub kind-of : List ℕ → Option Kind
+kind-of v = cond (sameBytes v (codes "tree")) (Some tree-rules) (cond (sameBytes v (codes "snort")) (Some snort-rules) None)

@@ -1,8 +1,12 @@
 // A whole job, from its bytes.
 
+mod account;
 mod head;
 mod moves;
 
+pub use account::Account;
+pub use account::AccountDebug;
+pub use account::AccountPartialEq;
 pub use head::read_first;
 pub use head::read_side;
 pub use moves::Move;
