@@ -6,6 +6,7 @@ use lib.Dec.{eqb, leb, ltb}
 use lib.ListN.{getD}
 use Rattle.masks.specs.Masks.{has}
 
+-- the most points of a map
 abbrev pub pointLimit : ℕ
 pointLimit = 12
 

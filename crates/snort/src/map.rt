@@ -1,11 +1,10 @@
 ghost use mathlib.Core.Path.{_≡_};
-ghost use mathlib.Core.Bool.{Bool, true, false, cond, _&&_, _||_};
-ghost use Prim.Native.Nat.{ℕ, _+_, _<_, _≤_, _^_};
-ghost use lib.Dec.{eqb, ltb};
+ghost use mathlib.Core.Bool.{true, false, cond, _&&_, _||_};
+ghost use Prim.Native.Nat.{ℕ, _<_, _≤_, _^_};
 ghost use lib.ListN.{getD};
 ghost use Rattle.std.specs.declared.result.Result.the-variants.{Ok, Err};
 ghost use Rattle.masks.specs.Masks.{mask-of};
-ghost use Rattle.snort.specs.Maps.{joined, edge, edge-fits, size-fits};
+ghost use Rattle.snort.specs.Maps.{pointLimit, joined, edge, edge-fits, size-fits};
 ghost use Rattle.snort.specs.Play.{beside, legal as legalFor, clash-at, clash as clashOf, colours-of, moves-mask, growth, snort-tree, By-the-rules};
 use crate::colours::Colours;
 use masks::has;
@@ -17,7 +16,7 @@ use terms::Side;
 // The most points of a map.
 pub const POINT_LIMIT: u32 = 12;
 
-// What Left's mask leaves to Right's in a code.
+// Right's mask stands so many times in a code.
 const CODE_BASE: u32 = 4096;
 
 // A map of points, each with the mask of its neighbours, and the game of Snort on it.
@@ -26,7 +25,7 @@ const CODE_BASE: u32 = 4096;
 pub struct Snort {
     points: u8,
     near: [u16; 12],
-    ghost size: { (1 ≤ points) × (points ≤ 12) },
+    ghost size: { (1 ≤ points) × (points ≤ pointLimit) },
     ghost within: { (k : ℕ) → getD near k 0 < 2 ^ points },
     ghost loopless: { (k : ℕ) → joined near k k ≡ false },
     ghost symmetric: { (a b : ℕ) → joined near a b ≡ joined near b a },
