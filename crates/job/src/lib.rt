@@ -10,5 +10,6 @@ pub use account::AccountPartialEq;
 pub use head::read_first;
 pub use head::read_side;
 pub use moves::Move;
+pub use moves::count_moves;
 pub use moves::read_count;
 pub use moves::read_move;

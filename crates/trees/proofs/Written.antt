@@ -23,11 +23,11 @@ use Rattle.theory.specs.Limits.{optionLimit, scoreLimit}
 use Rattle.theory.specs.Trees.{Tree, Forest, ended, branch, one, more, trees, options, at, Score, Lawful}
 use Rattle.rules.specs.Meaning.{known-in, score-of, score-in, options-in, Names, Lawful-in}
 use Rattle.rules.specs.Positions.{position}
+use Rattle.rules.proofs.Options.{at-past, at-map, map-same, map-map, some-apart, all-map, same-tree}
 use Rattle.rules.proofs.Positions.{options-open, score-open, lawful-position}
 use Rattle.trees.specs.declared.row.PickRun.{PickRun}
 use Rattle.trees.specs.declared.row.TreeRow.{TreeRow}
 use Rattle.trees.specs.Written.{rowLimit, pickLimit, empty, blank, named, all-above, lawful-list, score-or-zero, row-at, open-row, list-at, options-at, tree-within, tree-of-row, tree-at, Says, Agrees, Trees-as-written}
-use Rattle.trees.proofs.Lists.{at-past, at-map, map-same, map-map, some-apart, all-map}
 
 -- a row above the own one and below the end
 abbrev pub Above : ℕ → ℕ → ℕ → Type 0
@@ -78,25 +78,6 @@ length-named picks l h =
 
 pub lawful-score : (v : ℤ) → Score (score-or-zero v)
 lawful-score v = grind (arith, ints)
-
--- an open tree is determined by its options
-same-forest : (F G : Forest) → trees F ≡ trees G → F ≡ G
-same-forest (one x) (one y) e = let h : x ≡ y = cc in cc
-same-forest (one x) (more y (one z)) e = let w : _≡_ {A = ℕ} 0 1 = cc in absurd (omega arith)
-same-forest (one x) (more y (more z G)) e = let w : _≡_ {A = ℕ} 0 1 = cc in absurd (omega arith)
-same-forest (more x (one z)) (one y) e = let w : _≡_ {A = ℕ} 0 1 = cc in absurd (omega arith)
-same-forest (more x (more z F)) (one y) e = let w : _≡_ {A = ℕ} 0 1 = cc in absurd (omega arith)
-same-forest (more x F) (more y G) e =
-    let h : x ≡ y = cc in
-    let t : trees F ≡ trees G = cc in
-    let r = same-forest F G t in
-    cc
-
-same-tree : (x y : Tree) → options x Left ≡ options y Left → options x Right ≡ options y Right → 0 < length (options y Left) → x ≡ y
-same-tree x (ended w) l r some = absurd (omega arith)
-same-tree (ended v) (branch L R) l r some = let n = ap length l in absurd (omega arith)
-same-tree (branch F G) (branch L R) l r some =
-    let p = same-forest F L l in let q = same-forest G R r in cc
 
 -- a row's options: all above it, at most 16, and some for each side exactly where the row is open
 module _ (rows : List TreeRow) (picks : List ℕ) where

@@ -5,7 +5,7 @@ use mathlib.Core.Bool.{Bool, true, false, cond, _&&_}
 use Prim.Native.Nat.{ℕ, zero, suc, _+_, _≤_, _<_}
 use lib.Dec.{leb, ltb}
 use lib.IntN.{ℤ, pos, negℤ}
-use lib.ListN.{length, getD, take, drop}
+use lib.ListN.{length, getD, take, drop, replicate}
 use lib.Signed.{leZ}
 use Rattle.std.specs.declared.option.Option.{Option}
 use Rattle.std.specs.declared.option.Option.the-variants.{Some, None}
@@ -31,6 +31,13 @@ empty = record { begin = 0; count = 0 }
 
 abbrev pub blank : TreeRow
 blank = record { score = pos 0; left = empty; right = empty }
+
+-- buffers in which nothing is written
+abbrev pub blank-rows : ℕ → List TreeRow
+blank-rows n = replicate n blank
+
+abbrev pub blank-picks : ℕ → List ℕ
+blank-picks n = replicate n 0
 
 -- the rows that a list names, in their order
 abbrev pub named : List ℕ → PickRun → List ℕ

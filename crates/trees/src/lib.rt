@@ -31,6 +31,11 @@ mod tests {
         }
     }
 
+    // Any rule set will do.
+    fn left_options<R: RuleSet>(rules: &R, code: u32) -> u8 {
+        rules.count(code, Side::Left)
+    }
+
     // {4|0}: row 0 has the options 1 and 2.
     #[test]
     fn four_or_nothing() -> Result<(), Fail> {
@@ -39,7 +44,7 @@ mod tests {
         let rows = [open(left, right), ended(4), ended(1001)];
         let trees = Trees::new(&rows, &[1, 2]);
         check(trees.known(2) && !trees.known(3))?;
-        check_eq(trees.count(0, Side::Left), 1)?;
+        check_eq(left_options(&trees, 0), 1)?;
         check_eq(trees.option(0, Side::Left, 0), Some(1))?;
         check_eq(trees.option(0, Side::Right, 0), Some(2))?;
         check_eq(trees.option(0, Side::Right, 1), None)?;

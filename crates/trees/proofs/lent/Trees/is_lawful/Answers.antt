@@ -14,4 +14,4 @@ part-all-above-end c =
 
 pub returns : need.returns
 returns c =
-    lawful-part (c .args .self .now .rows .now) (c .args .self .now .picks .now) (length (take rowLimit (c .args .self .now .rows .now))) (c .args .own) (c .args .list) (c .all-above .result) (c .if-list-eq0 .left) (c .if-list-gt-OPTION-LIMIT .left) (omega arith) (rw (c .row-count .ensures) at (c .all-above .ensures))
+    lawful-part (c .args .self .now .rows .now) (c .args .self .now .picks .now) (length (take rowLimit (c .args .self .now .rows .now))) (c .args .own) (c .args .list) (c .all-above .result) (omega arith) (omega arith) (omega arith) (rw (c .row-count .ensures) at (c .all-above .ensures))

@@ -4,4 +4,4 @@ use Rattle.trees.specs.Written.{pickLimit}
 use Rattle.trees.proofs.lent.Trees.pick_count.Needs as need
 
 pub returns : need.returns
-returns c = let e = c .min .ensures in omega (arith, length-take pickLimit (c .args .self .now .picks .now))
+returns c = omega (arith, length-take pickLimit (c .args .self .now .picks .now))

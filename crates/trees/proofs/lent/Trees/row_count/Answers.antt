@@ -4,4 +4,4 @@ use Rattle.trees.specs.Written.{rowLimit}
 use Rattle.trees.proofs.lent.Trees.row_count.Needs as need
 
 pub returns : need.returns
-returns c = let e = c .min .ensures in omega (arith, length-take rowLimit (c .args .self .now .rows .now))
+returns c = omega (arith, length-take rowLimit (c .args .self .now .rows .now))
