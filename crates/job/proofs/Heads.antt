@@ -22,8 +22,10 @@ use Rattle.lines.specs.Lines.{line, entry, form}
 use Rattle.lines.proofs.Splits.{Clear, some-same, cut-sound, cut-complete}
 use Rattle.lines.proofs.Laws.{Reads, entry-reads, form-whole, counted}
 use Rattle.lines.proofs.Counts.{upto-sound, upto-complete, written-clear, count-reads}
+use Rattle.job.specs.declared.kind.Kind.{Kind}
+use Rattle.job.specs.declared.kind.Kind.the-variants as kinds
 use Rattle.job.specs.declared.moves.Move.{Move}
-use Rattle.job.specs.Grammar.{side-text, first-text, Kind, tree-rules, snort-rules, kind-text, move-text, moves-text, Good-move, Good-moves, lastPart, lastOption, moveLimit}
+use Rattle.job.specs.Grammar.{side-text, first-text, kind-text, move-text, moves-text, Good-move, Good-moves, lastPart, lastOption, moveLimit}
 use Rattle.job.specs.Values.{side-of, first-of, kind-of, both-of, move-parts, move-of}
 use Rattle.job.specs.Reads.{side-line, first-line, move-line, moves-lines}
 
@@ -73,18 +75,18 @@ first-reads = entry-reads key.First (form first-of) first-text Any (form-whole f
 pub kind-sound : (v : List ℕ) (k : Kind) → kind-of v ≡ Some k → Any k × (v ≡ kind-text k)
 kind-sound v k e = go (sameBytes v (codes "tree")) (sameBytes v (codes "snort")) refl refl e
   where
-    go : (l r : Bool) → sameBytes v (codes "tree") ≡ l → sameBytes v (codes "snort") ≡ r → cond l (Some tree-rules) (cond r (Some snort-rules) None) ≡ Some k → Any k × (v ≡ kind-text k)
+    go : (l r : Bool) → sameBytes v (codes "tree") ≡ l → sameBytes v (codes "snort") ≡ r → cond l (Some kinds.Tree) (cond r (Some kinds.Snort) None) ≡ Some k → Any k × (v ≡ kind-text k)
     go true r p q e = (tt, sameBytes-decides v (codes "tree") .0 p ∙ ap kind-text (some-same e))
     go false true p q e = (tt, sameBytes-decides v (codes "snort") .0 q ∙ ap kind-text (some-same e))
     go false false p q e = none-some e
 
 pub kind-complete : (k : Kind) → Any k → kind-of (kind-text k) ≡ Some k
-kind-complete tree-rules g = refl
-kind-complete snort-rules g = refl
+kind-complete kinds.Tree g = refl
+kind-complete kinds.Snort g = refl
 
 pub kind-clear : (k : Kind) → Any k → Clear 10 (kind-text k)
-kind-clear tree-rules g = search arith
-kind-clear snort-rules g = search arith
+kind-clear kinds.Tree g = search arith
+kind-clear kinds.Snort g = search arith
 
 -- a move
 both-some : (o q : Option ℕ) (m : Move) → both-of o q ≡ Some m → (o ≡ Some (m .part)) × (q ≡ Some (m .option))

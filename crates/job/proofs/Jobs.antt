@@ -22,7 +22,9 @@ use Rattle.tree_text.specs.Rows.{Row, tree-lines, tree-text, Good-tree}
 use Rattle.tree_text.proofs.Exact.{tree-reads}
 use Rattle.map_text.specs.Maps.{Map, read-map, map-text, Good-map}
 use Rattle.map_text.proofs.Maps.{map-reads as map-law}
-use Rattle.job.specs.Grammar.{Part, tree, snort, Kind, tree-rules, snort-rules, kind, kind-text, body-text, part-text, parts-text, moves-text, side-text, first-text, Job, job-text, partLimit, Good-part, Good-parts, Good-moves, Good-job}
+use Rattle.job.specs.declared.kind.Kind.{Kind}
+use Rattle.job.specs.declared.kind.Kind.the-variants as kinds
+use Rattle.job.specs.Grammar.{Part, tree, snort, kind, kind-text, body-text, part-text, parts-text, moves-text, side-text, first-text, Job, job-text, partLimit, Good-part, Good-parts, Good-moves, Good-job}
 use Rattle.job.specs.Values.{kind-of}
 use Rattle.job.specs.Reads.{side-line, first-line, body-lines, part-lines, parts-lines, moves-lines, job-lines, ended, read-job}
 use Rattle.job.specs.Law.{Says, Job-exact}
@@ -30,28 +32,28 @@ use Rattle.job.proofs.Heads.{Any, side-reads, first-reads, kind-sound, kind-co
 
 module _ (lent room : ℕ) where
   abbrev Of-kind : Kind → Part → Type 0
-  Of-kind tree-rules (tree rs) = Good-tree lent room rs
-  Of-kind tree-rules (snort m) = ⊥
-  Of-kind snort-rules (tree rs) = ⊥
-  Of-kind snort-rules (snort m) = Good-map m
+  Of-kind kinds.Tree (tree rs) = Good-tree lent room rs
+  Of-kind kinds.Tree (snort m) = ⊥
+  Of-kind kinds.Snort (tree rs) = ⊥
+  Of-kind kinds.Snort (snort m) = Good-map m
 
-  from-tree : (b : Part) → Of-kind tree-rules b → (rs : List Row) × (b ≡ tree rs) × Good-tree lent room rs
+  from-tree : (b : Part) → Of-kind kinds.Tree b → (rs : List Row) × (b ≡ tree rs) × Good-tree lent room rs
   from-tree (tree rs) g = (rs, refl, g)
   from-tree (snort m) g = absurd g
 
-  from-snort : (b : Part) → Of-kind snort-rules b → (m : Map) × (b ≡ snort m) × Good-map m
+  from-snort : (b : Part) → Of-kind kinds.Snort b → (m : Map) × (b ≡ snort m) × Good-map m
   from-snort (tree rs) g = absurd g
   from-snort (snort m) g = (m, refl, g)
 
   body-reads : (k : Kind) → Reads (body-lines lent room k) body-text (Of-kind k)
-  body-reads tree-rules = map-reads tree (tree-lines lent room) tree-text (Good-tree lent room) body-text (Of-kind tree-rules) (λ rs. refl) (λ rs g. g) from-tree (tree-reads lent room)
-  body-reads snort-rules = map-reads snort read-map map-text Good-map body-text (Of-kind snort-rules) (λ m. refl) (λ m g. g) from-snort map-law
+  body-reads kinds.Tree = map-reads tree (tree-lines lent room) tree-text (Good-tree lent room) body-text (Of-kind kinds.Tree) (λ rs. refl) (λ rs g. g) from-tree (tree-reads lent room)
+  body-reads kinds.Snort = map-reads snort read-map map-text Good-map body-text (Of-kind kinds.Snort) (λ m. refl) (λ m g. g) from-snort map-law
 
   of-kind : (k : Kind) (b : Part) → Of-kind k b → (kind b ≡ k) × Good-part lent room b
-  of-kind tree-rules (tree rs) g = (refl, g)
-  of-kind tree-rules (snort m) g = absurd g
-  of-kind snort-rules (tree rs) g = absurd g
-  of-kind snort-rules (snort m) g = (refl, g)
+  of-kind kinds.Tree (tree rs) g = (refl, g)
+  of-kind kinds.Tree (snort m) g = absurd g
+  of-kind kinds.Snort (tree rs) g = absurd g
+  of-kind kinds.Snort (snort m) g = (refl, g)
 
   to-kind : (b : Part) → Good-part lent room b → Of-kind (kind b) b
   to-kind (tree rs) g = g

@@ -13,6 +13,8 @@ use Rattle.lines.specs.declared.key.Key.the-variants as key
 use Rattle.lines.specs.Lines.{line}
 use Rattle.tree_text.specs.Rows.{Row, tree-text, Good-tree}
 use Rattle.map_text.specs.Maps.{Map, map-text, Good-map}
+use Rattle.job.specs.declared.kind.Kind.{Kind}
+use Rattle.job.specs.declared.kind.Kind.the-variants as kinds
 use Rattle.job.specs.declared.moves.Move.{Move}
 
 -- a part is a tree of the designer's own, or Snort on a map
@@ -48,17 +50,13 @@ abbrev pub first-text : Mover → List ℕ
 first-text Ours = codes "ours"
 first-text Theirs = codes "theirs"
 
-pub data Kind : Type 0 where
-  tree-rules : Kind
-  snort-rules : Kind
-
 abbrev pub kind : Part → Kind
-kind (tree rows) = tree-rules
-kind (snort map) = snort-rules
+kind (tree rows) = kinds.Tree
+kind (snort map) = kinds.Snort
 
 abbrev pub kind-text : Kind → List ℕ
-kind-text tree-rules = codes "tree"
-kind-text snort-rules = codes "snort"
+kind-text kinds.Tree = codes "tree"
+kind-text kinds.Snort = codes "snort"
 
 abbrev pub body-text : Part → List ℕ
 body-text (tree rows) = tree-text rows

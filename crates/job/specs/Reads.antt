@@ -14,8 +14,10 @@ use Rattle.lines.specs.Reading.{State, at, Reading, then, done, _>>=_, times, f
 use Rattle.lines.specs.Lines.{entry, form}
 use Rattle.tree_text.specs.Rows.{tree-lines}
 use Rattle.map_text.specs.Maps.{read-map}
+use Rattle.job.specs.declared.kind.Kind.{Kind}
+use Rattle.job.specs.declared.kind.Kind.the-variants as kinds
 use Rattle.job.specs.declared.moves.Move.{Move}
-use Rattle.job.specs.Grammar.{Part, tree, snort, Kind, tree-rules, snort-rules, Job, partLimit, moveLimit}
+use Rattle.job.specs.Grammar.{Part, tree, snort, Job, partLimit, moveLimit}
 use Rattle.job.specs.Values.{side-of, first-of, move-of, kind-of}
 
 abbrev pub side-line : Reading Side
@@ -28,10 +30,10 @@ abbrev pub move-line : Reading Move
 move-line = entry key.Move (form move-of)
 
 abbrev pub body-lines : ℕ → ℕ → Kind → Reading Part
-body-lines lent room tree-rules = do
+body-lines lent room kinds.Tree = do
   rows ← tree-lines lent room
   done (tree rows)
-body-lines lent room snort-rules = do
+body-lines lent room kinds.Snort = do
   map ← read-map
   done (snort map)
 

@@ -12,8 +12,10 @@ use Rattle.terms.specs.declared.side.Mover.{Mover}
 use Rattle.terms.specs.declared.side.Mover.the-variants.{Ours, Theirs}
 use Rattle.numbers.specs.Numbers.{upto}
 use Rattle.lines.specs.Reading.{cut}
+use Rattle.job.specs.declared.kind.Kind.{Kind}
+use Rattle.job.specs.declared.kind.Kind.the-variants as kinds
 use Rattle.job.specs.declared.moves.Move.{Move}
-use Rattle.job.specs.Grammar.{Kind, tree-rules, snort-rules, lastPart, lastOption}
+use Rattle.job.specs.Grammar.{lastPart, lastOption}
 
 abbrev pub side-of : List ℕ → Option Side
 side-of v = cond (sameBytes v (codes "left")) (Some Left) (cond (sameBytes v (codes "right")) (Some Right) None)
@@ -35,4 +37,4 @@ abbrev pub move-of : List ℕ → Option Move
 move-of v = move-parts (cut 44 v)
 
 abbrev pub kind-of : List ℕ → Option Kind
-kind-of v = cond (sameBytes v (codes "tree")) (Some tree-rules) (cond (sameBytes v (codes "snort")) (Some snort-rules) None)
+kind-of v = cond (sameBytes v (codes "tree")) (Some kinds.Tree) (cond (sameBytes v (codes "snort")) (Some kinds.Snort) None)
