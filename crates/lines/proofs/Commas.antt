@@ -59,7 +59,7 @@ commas-clear (l ∷ []) c = c .0
 commas-clear (l ∷ (m ∷ ms)) c = all-append (λ x. x ≡ 10 → ⊥) l (44 ∷ commas (m ∷ ms)) (c .0) ((λ e. omega arith), commas-clear (m ∷ ms) (c .1))
 
 -- the pieces that are read are those that are written
-both-some : {A : Type 0} (o : Option A) (p : Option (List A)) (xs : List A) → both o p ≡ Some xs → (a : A) × (more : List A) × (o ≡ Some a) × (p ≡ Some more) × (a ∷ more ≡ xs)
+pub both-some : {A : Type 0} (o : Option A) (p : Option (List A)) (xs : List A) → both o p ≡ Some xs → (a : A) × (more : List A) × (o ≡ Some a) × (p ≡ Some more) × (a ∷ more ≡ xs)
 both-some None p xs e = none-some e
 both-some (Some a) None xs e = none-some e
 both-some (Some a) (Some more) xs e = (a, more, refl, refl, some-same e)

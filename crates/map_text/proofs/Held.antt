@@ -1,39 +1,24 @@
 -- The number of points, by the parts of its text.
 use mathlib.Core.Path.{_≡_, refl, ap, sym, _∙_}
 use mathlib.Core.List.{List, [], _∷_}
-use mathlib.Core.Bool.{Bool, true, false, cond, _&&_}
-use mathlib.Core.Logic.{_⊎_, inl, inr}
-use Prim.Native.Nat.{ℕ, zero, suc, min, _≤_, _<_}
+use Prim.Native.Nat.{ℕ, zero, suc, _<_}
 use native.Mathlib.Omega.{arith}
-use lib.Dec.{eqb, leb, ltb}
-use lib.IntN.{ℤ, pos, negsuc}
+use lib.Dec.{eqb}
 use lib.ListN.{length, getD, drop}
-use Rattle.std.proofs.shelf.Tests.{eq-eqb, ne-eqb, cond-true, cond-false, and-right, lt-leb, cases-lt}
+use Rattle.std.proofs.shelf.Tests.{eq-eqb, cond-true}
 use Rattle.std.specs.declared.option.Option.{Option}
 use Rattle.std.specs.declared.option.Option.the-variants.{Some, None}
-use Rattle.std.specs.declared.result.Result.{Result}
 use Rattle.std.specs.declared.result.Result.the-variants.{Ok, Err}
 use Rattle.terms.specs.declared.fault.Fault.{Fault}
 use Rattle.terms.specs.declared.fault.Refusal.the-variants.{WrongForm, WrongPoints}
 use Rattle.terms.specs.Refusals.{fault}
-use Rattle.numbers.specs.Numbers.{natural, integer, below-zero, above-zero, capped, judged}
+use Rattle.numbers.specs.Numbers.{natural, below-zero, above-zero, capped, judged}
 use Rattle.lines.specs.Reading.{then}
-use Rattle.lines.proofs.Fields.{ok-same, err-ok, err-same}
-use Rattle.map_text.specs.Maps.{mostPoints, lawful-points, points-of}
+use Rattle.lines.proofs.Fields.{err-ok, err-same}
 use Rattle.map_text.specs.Held.{from-zero, points-held}
 use Rattle.map_text.proofs.Pairs.{number-read}
 
--- without a minus
-held-above : (n : ℕ) (o : Option ℕ) → judged (capped o) n ≡ then (judged (above-zero o) n) (from-zero n)
-held-above n None = refl
-held-above n (Some k) = refl
-
-pub held-plain : (n : ℕ) (xs : List ℕ) → (length xs ≡ 0) ⊎ (getD xs 0 0 ≡ 45 → ⊥) → judged (capped (natural xs)) n ≡ points-held xs n
-held-plain n [] h = refl
-held-plain n (b ∷ bs) (inl h) = absurd (omega arith)
-held-plain n (b ∷ bs) (inr h) = held-above n (natural (b ∷ bs)) ∙ ap (λ o. then (judged o n) (from-zero n)) (sym (cond-false (eqb b 45) (below-zero (natural bs)) (above-zero (natural (b ∷ bs))) (ne-eqb b 45 h)))
-
--- with one: what follows it is no number, is 0, or is the size of a number below 0
+-- what follows a minus is no number, is 0, or is the size of a number below 0
 held-minus : (n : ℕ) (xs : List ℕ) → 0 < length xs → getD xs 0 0 ≡ 45 → points-held xs n ≡ then (judged (below-zero (natural (drop 1 xs))) n) (from-zero n)
 held-minus n [] h e = absurd (omega arith)
 held-minus n (b ∷ bs) h e = ap (λ o. then (judged o n) (from-zero n)) (cond-true (eqb b 45) (below-zero (natural bs)) (above-zero (natural (b ∷ bs))) (eq-eqb b 45 e))
@@ -61,20 +46,3 @@ module _ (n : ℕ) (xs : List ℕ) (h : 0 < length xs) (m : getD xs 0 0 ≡ 45) 
       below : (a : ℕ) → 0 < a → then (judged (below-zero (Some a)) n) (from-zero n) ≡ Err (fault WrongPoints n)
       below zero p = absurd (omega arith)
       below (suc a) p = refl
-
--- what is held says whether the map may have so many
-abbrev pub lawful-held : ℕ → ℕ → Result ℕ Fault
-lawful-held n k = cond (ltb 0 k && leb k mostPoints) (Ok k) (Err (fault WrongPoints n))
-
-pub points-by-held : (v : List ℕ) (n : ℕ) → points-of v n ≡ then (points-held v n) (lawful-held n)
-points-by-held v n = go (judged (integer v) n)
-  where
-    past : (k : ℕ) → (k < 0xffff_ffff) ⊎ (0xffff_ffff ≤ k) → lawful-held n k ≡ lawful-held n (min k 0xffff_ffff)
-    past k (inl h) = let q : min k 0xffff_ffff ≡ k = omega arith in ap (lawful-held n) (sym q)
-    past k (inr h) =
-        let q : min k 0xffff_ffff ≡ 0xffff_ffff = omega arith in
-        cond-false (ltb 0 k && leb k mostPoints) _ _ (and-right (ltb 0 k) (leb k mostPoints) (lt-leb k mostPoints (omega arith))) ∙ ap (lawful-held n) (sym q)
-    go : (r : Result ℤ Fault) → then r (lawful-points n) ≡ then (then r (from-zero n)) (lawful-held n)
-    go (Err d) = refl
-    go (Ok (negsuc k)) = refl
-    go (Ok (pos k)) = past k (cases-lt k 0xffff_ffff)

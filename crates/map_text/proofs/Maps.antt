@@ -1,21 +1,20 @@
 -- Maps are read just where they are written.
 use mathlib.Core.Path.{_≡_, refl, ap, sym, _∙_, subst}
 use mathlib.Core.List.{List, [], _∷_, _++_, map}
-use mathlib.Core.Bool.{Bool, true, false, cond, _&&_, _||_}
+use mathlib.Core.Bool.{Bool, true, false, cond, _&&_}
 use Prim.Native.Nat.{ℕ, _+_, _≤_, _<_}
 use native.Mathlib.Omega.{arith}
 use lib.Chars.{codes}
-use lib.Dec.{eqb, leb, ltb}
+use lib.Dec.{leb, ltb}
 use lib.IntN.{ℤ, pos, negsuc}
 use lib.ListN.{length}
 use Rattle.std.specs.shelf.Lists.{All}
 use Rattle.std.specs.shelf.Text.{sameBytes}
-use Rattle.std.proofs.shelf.Elements.{all-append, all-map, all-weaker}
+use Rattle.std.proofs.shelf.Elements.{all-append, all-weaker}
 use Rattle.std.proofs.shelf.Equals.{sameBytes-decides}
-use Rattle.std.proofs.shelf.Tests.{leb-true, le-leb, ltb-true, lt-ltb, cond-true, cond-false, and-parts, and-from}
+use Rattle.std.proofs.shelf.Tests.{leb-true, le-leb, ltb-true, lt-ltb, cond-true, and-parts, and-from}
 use Rattle.std.specs.declared.option.Option.{Option}
 use Rattle.std.specs.declared.option.Option.the-variants.{Some, None}
-use Rattle.std.specs.declared.result.Result.{Result}
 use Rattle.std.specs.declared.result.Result.the-variants.{Ok, Err}
 use Rattle.terms.specs.declared.fault.Fault.{Fault}
 use Rattle.terms.specs.declared.fault.Refusal.the-variants.{WrongPoints, WrongEdge}
@@ -30,7 +29,8 @@ use Rattle.lines.proofs.Splits.{Clear, some-same, cut-sound, cut-complete}
 use Rattle.lines.proofs.Fields.{ok-same, err-ok}
 use Rattle.lines.proofs.Laws.{Whole, Reads, then-ok, entry-reads, seq-reads, map-reads as mapped-reads}
 use Rattle.lines.proofs.Commas.{commas-clear, list-sound, list-complete}
-use Rattle.map_text.specs.Maps.{Edge, Map, edge, mostPoints, lawful-points, points-of, pair-of, ends, edge-of, rising, if-rising, edges-form, on-map, edges-of, read-map, edge-text, edges-text, map-text, On-map, Good-edges, Good-map}
+use Rattle.snort.specs.Maps.{pointLimit}
+use Rattle.map_text.specs.Maps.{Edge, edge, lawful-points, points-of, pair-of, ends, edge-of, rising, if-rising, edges-form, on-map, edges-of, read-map, edge-text, edges-text, map-text, On-map, Good-edges, Good-map}
 
 -- a value that was not refused
 judged-ok : {A : Type 0} (o : Option A) (n : ℕ) (a : A) → judged o n ≡ Ok a → o ≡ Some a
@@ -42,14 +42,14 @@ written-clear b n h = all-weaker (λ x. (48 ≤ x) × (x ≤ 57)) (λ x. x ≡ b
 
 -- the number of points
 abbrev Few : ℕ → Type 0
-Few n = (0 < n) × (n ≤ mostPoints)
+Few n = (1 ≤ n) × (n ≤ pointLimit)
 
 lawful-ok : (n k : ℕ) (z : ℤ) → lawful-points n z ≡ Ok k → Few k × (z ≡ pos k)
 lawful-ok n k (negsuc m) e = err-ok e
-lawful-ok n k (pos m) e = go (ltb 0 m && leb m mostPoints) refl e
+lawful-ok n k (pos m) e = go (leb 1 m && leb m pointLimit) refl e
   where
-    go : (t : Bool) → (ltb 0 m && leb m mostPoints) ≡ t → cond t (Ok m) (Err (fault WrongPoints n)) ≡ Ok k → Few k × (pos m ≡ pos k)
-    go true t e = let p = and-parts (ltb 0 m) (leb m mostPoints) t in (subst Few (ok-same e) (ltb-true 0 m (p .0), leb-true m mostPoints (p .1)), ap pos (ok-same e))
+    go : (t : Bool) → (leb 1 m && leb m pointLimit) ≡ t → cond t (Ok m) (Err (fault WrongPoints n)) ≡ Ok k → Few k × (pos m ≡ pos k)
+    go true t e = let p = and-parts (leb 1 m) (leb m pointLimit) t in (subst Few (ok-same e) (leb-true 1 m (p .0), leb-true m pointLimit (p .1)), ap pos (ok-same e))
     go false t e = err-ok e
 
 points-whole : Whole points-of written Few
@@ -61,7 +61,7 @@ points-whole = record
       (l .0, integer-exact v (f .0) .0 (judged-ok (integer v) n (f .0) (f .1)) ∙ number (f .0) k (l .1))
   ; complete = λ k n g.
       ap (λ o. then (judged o n) (lawful-points n)) (whole-number k)
-      ∙ cond-true (ltb 0 k && leb k mostPoints) _ _ (and-from (ltb 0 k) (leb k mostPoints) (lt-ltb 0 k (g .0)) (le-leb k mostPoints (g .1)))
+      ∙ cond-true (leb 1 k && leb k pointLimit) _ _ (and-from (leb 1 k) (leb k pointLimit) (le-leb 1 k (g .0)) (le-leb k pointLimit (g .1)))
   ; clear = λ k g. written-clear 10 k (omega arith) }
   where
     number : (z : ℤ) (k : ℕ) → z ≡ pos k → decimal z ≡ written k

@@ -2,3 +2,4 @@ pub mod Maps
 pub mod Laws
 pub mod Held
 pub mod Pairs
+pub mod Shows

@@ -20,6 +20,7 @@ use Rattle.lines.specs.declared.key.Key.the-variants.{Points, Edges}
 use Rattle.lines.specs.Reading.{Reading, done, _>>=_, then, cut}
 use Rattle.lines.specs.Lines.{entry, line}
 use Rattle.lines.specs.Commas.{pieces, commas, all-of}
+use Rattle.snort.specs.Maps.{pointLimit, size-fits}
 
 pub record Edge : Type 0 where
   pub from : ℕ
@@ -32,12 +33,9 @@ pub record Map : Type 0 where
 abbrev pub edge : ℕ → ℕ → Edge
 edge a b = record { from = a; to = b }
 
--- a map has 1 to 12 points; any other integer is a wrong number of points
-abbrev pub mostPoints : ℕ
-mostPoints = 12
-
+-- the number of points is an integer; one that no map may have is a wrong number of points
 abbrev pub lawful-points : ℕ → ℤ → Result ℕ Fault
-lawful-points n (pos k) = cond (ltb 0 k && leb k mostPoints) (Ok k) (Err (fault WrongPoints n))
+lawful-points n (pos k) = cond (size-fits k) (Ok k) (Err (fault WrongPoints n))
 lawful-points n (negsuc k) = Err (fault WrongPoints n)
 
 abbrev pub points-of : List ℕ → ℕ → Result ℕ Fault
@@ -106,4 +104,4 @@ abbrev pub Good-edges : ℕ → List Edge → Type 0
 Good-edges points es = (rising es ≡ true) × On-map points es
 
 abbrev pub Good-map : Map → Type 0
-Good-map m = ((0 < m .points) × (m .points ≤ mostPoints)) × Good-edges (m .points) (m .edges)
+Good-map m = ((1 ≤ m .points) × (m .points ≤ pointLimit)) × Good-edges (m .points) (m .edges)

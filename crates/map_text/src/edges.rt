@@ -11,7 +11,7 @@ use terms::Fault;
 use terms::Refusal;
 
 // The two numbers of an edge, the first not above the second.
-fn read_pair(text: &[u8], line: u32) -> Result<Pair<'_>, Fault>
+pub fn read_pair(text: &[u8], line: u32) -> Result<Pair<'_>, Fault>
     ensures { λ r. ⌜ Paired r (edge-of (now (text .entry))) line ⌝ }
 {
     let Some((from, to)) = cut(text, b'-') else {
@@ -48,7 +48,7 @@ fn read_next<'a>(last: Option<Pair<'a>>, text: &'a [u8], line: u32) -> Result<Pa
 }
 
 // Refuses a list of edges that has not its form.
-fn check_form(text: &[u8], line: u32) -> Result<(), Fault>
+pub fn check_form(text: &[u8], line: u32) -> Result<(), Fault>
     ensures { λ r. ⌜ r ≡ formed (goes-on None (all-of edge-of (pieces (now (text .entry))))) line ⌝ }
 {
     let mut last = None;

@@ -1,4 +1,4 @@
-use mathlib.Core.Path.{refl, sym, _∙_}
+use mathlib.Core.Path.{refl, sym}
 use Rattle.map_text.proofs.Pairs.{pair-wrong, pair-right}
 use Rattle.map_text.proofs.edges.read_pair.Needs as need
 
