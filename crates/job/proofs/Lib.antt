@@ -1,3 +1,4 @@
 pub mod Heads
 pub mod Jobs
 pub mod Loops
+pub mod Tellings

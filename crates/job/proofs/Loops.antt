@@ -9,7 +9,7 @@ use Rattle.terms.specs.declared.fault.Fault.{Fault}
 use Rattle.lines.specs.Reading.{State, Reading, then, times}
 use lib.ListN.{length}
 use Rattle.lines.specs.Reading.{_>>=_}
-use Rattle.lines.proofs.Fields.{ok-same, err-ok}
+use Rattle.lines.proofs.Fields.{ok-same, err-ok, err-same}
 use Rattle.lines.proofs.Laws.{then-ok}
 use Rattle.job.specs.Account.{passed, counted}
 
@@ -66,3 +66,26 @@ module _ {A : Type 0} (count : Reading ℕ) (p : Reading A) (s : State) where
       go : (r : Result (List A × State) Fault) → ((xs : List A) (t : State) → r ≡ Ok (xs, t) → length xs ≡ n) → Ok (tt, t) ≡ then {B = Unit {0} × State} r (λ q. Ok (tt, q .1)) → Ok (n, t) ≡ then {B = ℕ × State} r (λ q. Ok (length (q .0), q .1))
       go (Ok (xs, u)) l f = let q : t ≡ u = ap (λ x. x .1) (ok-same f) in λ i. Ok (sym (l xs u refl) i, q i)
       go (Err c) l f = err-ok (sym f)
+
+-- a step, and the rest
+pub bind-stops : {A B : Type 0} (p : Reading A) (f : A → Reading B) (s : State) (d : Fault) → Err d ≡ p s → Err d ≡ passed (_>>=_ p f) s
+bind-stops {A} {B} p f s d e = ap (λ r. then {A = B × State} {B = Unit {0} × State} (then r (λ q. f (q .0) (q .1))) (λ q. Ok (tt, q .1))) e
+
+pub bind-goes : {A B : Type 0} (p : Reading A) (f : A → Reading B) (s : State) (a : A) (t : State) → Ok (a, t) ≡ p s → passed (f a) t ≡ passed (_>>=_ p f) s
+bind-goes {A} {B} p f s a t e = ap (λ r. then {A = B × State} {B = Unit {0} × State} (then r (λ q. f (q .0) (q .1))) (λ q. Ok (tt, q .1))) e
+
+-- the turns of a loop over readings of which only the success is known
+module _ {A : Type 0} (p : Reading A) (n : ℕ) (s₀ : State) where
+  pub forget-more : (i : ℕ) (s t : State) → i < n → Ok (tt, t) ≡ passed p s → passed (times (n - i) p) s ≡ passed (times n p) s₀ → passed (times (n - (i + 1)) p) t ≡ passed (times n p) s₀
+  forget-more i s t h e inv = go (p s) refl e
+    where
+      go : (r : Result (A × State) Fault) → r ≡ p s → Ok (tt, t) ≡ then {B = Unit {0} × State} r (λ q. Ok (tt, q .1)) → passed (times (n - (i + 1)) p) t ≡ passed (times n p) s₀
+      go (Ok (a, u)) q e = let w : t ≡ u = ap (λ x. x .1) (ok-same e) in pass-more p n s₀ i s t a h (ap (λ v. Ok (a, v)) w ∙ q) inv
+      go (Err d) q e = err-ok (sym e)
+
+  pub forget-stops : (i : ℕ) (s : State) (d : Fault) → i < n → Err d ≡ passed p s → passed (times (n - i) p) s ≡ passed (times n p) s₀ → Err d ≡ passed (times n p) s₀
+  forget-stops i s d h e inv = go (p s) refl e
+    where
+      go : (r : Result (A × State) Fault) → r ≡ p s → Err d ≡ then {B = Unit {0} × State} r (λ q. Ok (tt, q .1)) → Err d ≡ passed (times n p) s₀
+      go (Ok q) w e = err-ok e
+      go (Err c) w e = let same : d ≡ c = err-same e in pass-stops p n s₀ i s d h (ap Err same ∙ w) inv

@@ -7,4 +7,5 @@ mod row;
 mod row_lines;
 mod tree;
 
+pub use tree::clear;
 pub use tree::read_tree;

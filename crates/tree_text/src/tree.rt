@@ -108,7 +108,7 @@ fn read_rows(
 }
 
 // Makes both buffers blank.
-fn clear(rows: &mut [TreeRow], picks: &mut [u8])
+pub fn clear(rows: &mut [TreeRow], picks: &mut [u8])
     ensures { λ _. ⌜ Blank (now (rows .exit)) (now (picks .exit)) ⌝ }
 {
     rows.fill(BLANK_ROW);
