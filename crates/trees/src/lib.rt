@@ -9,8 +9,12 @@ pub use row::BLANK_ROW;
 pub use row::EMPTY_RUN;
 pub use row::PICK_LIMIT;
 pub use row::PickRun;
+pub use row::PickRunDebug;
+pub use row::PickRunPartialEq;
 pub use row::ROW_LIMIT;
 pub use row::TreeRow;
+pub use row::TreeRowDebug;
+pub use row::TreeRowPartialEq;
 
 #[cfg(test)]
 mod tests {
