@@ -68,15 +68,18 @@ module _ (p a b x y : ℕ) (few : p ≤ 12) (h : a ≤ b) (i : x ≡ min a 0xfff
   held-as-it-is t = let k = ltb-true b p (and-parts (ltb a b) (ltb b p) t .1) in (omega arith, omega arith)
 
 one-joined : (s t : Snort) (e : Edge) (n a b : ℕ) (r : Result (Unit {0}) Refusal) → s .points ≤ 12 → e .from ≤ e .to → a ≡ min (e .from) 0xffff_ffff → b ≡ min (e .to) 0xffff_ffff → r ≡ cond (edge-fits (s .points) a b) (Ok tt) (Err WrongEdge) → t .points ≡ s .points → ((x y : ℕ) → joined (t .near) x y ≡ (joined (s .near) x y || (edge-fits (s .points) a b && joins a b x y))) → Joined (e ∷ []) n s t (on-line r n)
-one-joined s t e n a b r few h i j answer points edges = record
-  { answer = ap (λ q. on-line q n) (answer ∙ ap (λ z. cond z (Ok tt) (Err WrongEdge)) fits) ∙ met (on-one (s .points) e)
-  ; added = λ on. (points, λ x y. edges x y ∙ ap (λ z. joined (s .near) x y || z) (same x y (sym (and-yes (on-one (s .points) e)) ∙ on))) }
+one-joined s t e n a b r few h i j answer points edges = record {
+  answer = ap (λ q. on-line q n) (answer ∙ ap (λ z. cond z (Ok tt) (Err WrongEdge)) fits) ∙ met (on-one (s .points) e);
+  added = λ on. (points, λ x y. edges x y ∙ ap (λ z. joined (s .near) x y || z) (same x y (sym (and-yes (on-one (s .points) e)) ∙ on)));
+}
   where
     fits : edge-fits (s .points) a b ≡ on-one (s .points) e
     fits = fits-held (s .points) (e .from) (e .to) a b few h i j
+
     met : (z : Bool) → _≡_ {A = Result (Unit {0}) Fault} (on-line (cond z (Ok (tt {0})) (Err WrongEdge)) n) (cond (z && true) (Ok tt) (Err (fault WrongEdge n)))
     met true = refl
     met false = refl
+
     same : (x y : ℕ) → on-one (s .points) e ≡ true → (edge-fits (s .points) a b && joins a b x y) ≡ (joins (e .from) (e .to) x y || false)
     same x y on =
         let k = held-as-it-is (s .points) (e .from) (e .to) a b few h i j on in
@@ -93,26 +96,31 @@ no true a c d e = let z : _≡_ {A = ℕ} 0 1 = cc in absurd (omega arith)
 
 module _ (e : Edge) (es : List Edge) (n : ℕ) (s t : Snort) where
   join-more : (u : Snort) (r : Result (Unit {0}) Fault) → Joined (e ∷ []) n s t (Ok tt) → Joined es n t u r → Joined (e ∷ es) n s u r
-  join-more u r j k = record
-    { answer = k .answer ∙ ap (λ z. cond z (Ok tt) (Err (fault WrongEdge n))) rest
-    ; added = λ on.
+  join-more u r j k = record {
+    answer = k .answer ∙ ap (λ z. cond z (Ok tt) (Err (fault WrongEdge n))) rest;
+    added = λ on.
         let b = k .added (rest ∙ on) in
-        (b .0 ∙ a .0, λ x y. b .1 x y ∙ (ap (λ z. z || has-edge es x y) (a .1 x y ∙ ap (λ z. joined (s .near) x y || z) (or-no (joins (e .from) (e .to) x y))) ∙ or-assoc (joined (s .near) x y) (joins (e .from) (e .to) x y) (has-edge es x y))) }
+        (b .0 ∙ a .0, λ x y. b .1 x y ∙ (ap (λ z. z || has-edge es x y) (a .1 x y ∙ ap (λ z. joined (s .near) x y || z) (or-no (joins (e .from) (e .to) x y))) ∙ or-assoc (joined (s .near) x y) (joins (e .from) (e .to) x y) (has-edge es x y)));
+  }
     where
       on : (on-one (s .points) e && true) ≡ true
       on = yes (on-one (s .points) e && true) tt (fault WrongEdge n) (j .answer)
+
       a : Added (e ∷ []) s t
       a = j .added on
+
       rest : on-map (t .points) es ≡ on-map (s .points) (e ∷ es)
       rest = ap (λ p. on-map p es) (a .0) ∙ ap (λ z. z && on-map (s .points) es) (sym (sym (and-yes (on-one (s .points) e)) ∙ on))
 
   join-stops : (d : Fault) → Joined (e ∷ []) n s t (Err d) → Joined (e ∷ es) n s t (Err d)
-  join-stops d j = record
-    { answer = ap Err (off .1) ∙ ap (λ z. cond z (Ok tt) (Err (fault WrongEdge n))) (sym out)
-    ; added = λ on. true-false (sym on ∙ out) }
+  join-stops d j = record {
+    answer = ap Err (off .1) ∙ ap (λ z. cond z (Ok tt) (Err (fault WrongEdge n))) (sym out);
+    added = λ on. true-false (sym on ∙ out);
+  }
     where
       off : ((on-one (s .points) e && true) ≡ false) × (d ≡ fault WrongEdge n)
       off = no (on-one (s .points) e && true) tt d (fault WrongEdge n) (j .answer)
+
       out : on-map (s .points) (e ∷ es) ≡ false
       out = ap (λ z. z && on-map (s .points) es) (sym (and-yes (on-one (s .points) e)) ∙ off .0)
 

@@ -54,18 +54,20 @@ lawful-ok n k (pos m) e = go (leb 1 m && leb m pointLimit) refl e
 
 points-whole : Whole points-of written Few
 unfolding decimal
-points-whole = record
-  { sound = λ v n k e.
+points-whole = record {
+  sound = λ v n k e.
       let f = then-ok (judged (integer v) n) _ _ e in
       let l = lawful-ok n k (f .0) (f .2) in
-      (l .0, integer-exact v (f .0) .0 (judged-ok (integer v) n (f .0) (f .1)) ∙ number (f .0) k (l .1))
-  ; complete = λ k n g.
+      (l .0, integer-exact v (f .0) .0 (judged-ok (integer v) n (f .0) (f .1)) ∙ number (f .0) k (l .1));
+  complete = λ k n g.
       ap (λ o. then (judged o n) (lawful-points n)) (whole-number k)
-      ∙ cond-true (leb 1 k && leb k pointLimit) _ _ (and-from (leb 1 k) (leb k pointLimit) (le-leb 1 k (g .0)) (le-leb k pointLimit (g .1)))
-  ; clear = λ k g. written-clear 10 k (omega arith) }
+      ∙ cond-true (leb 1 k && leb k pointLimit) _ _ (and-from (leb 1 k) (leb k pointLimit) (le-leb 1 k (g .0)) (le-leb k pointLimit (g .1)));
+  clear = λ k g. written-clear 10 k (omega arith);
+}
   where
     number : (z : ℤ) (k : ℕ) → z ≡ pos k → decimal z ≡ written k
     number z k e = ap decimal e
+
     whole-number : (k : ℕ) → integer (written k) ≡ Some (pos k)
     whole-number k = integer-decimal (pos k)
 
@@ -144,8 +146,10 @@ form-complete (e ∷ es) r g = go (sameBytes v (codes "none")) refl
   where
     v : List ℕ
     v = commas (map edge-text (e ∷ es))
+
     reads : all-of edge-of (pieces v) ≡ Some (e ∷ es)
     reads = list-complete edge-of edge-text Whole-edge edge-complete (e ∷ es) (omega arith) g (edges-clear 44 (e ∷ es) (omega arith))
+
     go : (t : Bool) → sameBytes v (codes "none") ≡ t → cond t (Some []) (if-rising (all-of edge-of (pieces v))) ≡ Some (e ∷ es)
     go true t = none-some (ap (λ x. all-of edge-of (pieces x)) (sym (sameBytes-decides v (codes "none") .0 t)) ∙ reads)
     go false t = ap if-rising reads ∙ cond-true (rising (e ∷ es)) _ _ r
@@ -167,15 +171,16 @@ edges-text-clear [] = search arith
 edges-text-clear (e ∷ es) = commas-clear (map edge-text (e ∷ es)) (edges-clear 10 (e ∷ es) (omega arith))
 
 edges-whole : (n : ℕ) → Whole (edges-of n) edges-text (Good-edges n)
-edges-whole n = record
-  { sound = λ v k es q.
+edges-whole n = record {
+  sound = λ v k es q.
       let f = then-ok (judged (edges-form v) k) _ _ q in
       let l = form-sound v (f .0) (judged-ok (edges-form v) k (f .0) (f .1)) in
-      on (f .0) (fault WrongEdge k) es v l (on-map n (f .0)) refl (f .2)
-  ; complete = λ es k g.
+      on (f .0) (fault WrongEdge k) es v l (on-map n (f .0)) refl (f .2);
+  complete = λ es k g.
       ap (λ o. then (judged o k) (λ es. cond (on-map n es) (Ok es) (Err (fault WrongEdge k)))) (form-complete es (g .0) (all-weaker (λ e. (e .from < e .to) × (e .to < n)) Whole-edge (λ e h. omega (arith, h .0)) es (g .1)))
-      ∙ cond-true (on-map n es) _ _ (on-map-from n es (g .1))
-  ; clear = λ es g. edges-text-clear es }
+      ∙ cond-true (on-map n es) _ _ (on-map-from n es (g .1));
+  clear = λ es g. edges-text-clear es;
+}
   where
     on : (fs : List Edge) (d : Fault) (es : List Edge) (v : List ℕ) → (rising fs ≡ true) × (v ≡ edges-text fs) → (t : Bool) → on-map n fs ≡ t → cond t (Ok fs) (Err d) ≡ Ok es → Good-edges n es × (v ≡ edges-text es)
     on fs d es v l true t q = subst (λ gs. Good-edges n gs × (v ≡ edges-text gs)) (ok-same q) ((l .0, on-map-all n fs t), l .1)
@@ -189,7 +194,7 @@ map-reads =
     (λ n m. (m .points ≡ n) × Good-edges n (m .edges)) (λ m. Good-edges (m .points) (m .edges))
     (entry-reads Points points-of written Few points-whole)
     (λ n. mapped-reads (λ es. record { points = n; edges = es }) (entry Edges (edges-of n)) _ (Good-edges n) (λ m. line Edges (edges-text (m .edges))) (λ m. (m .points ≡ n) × Good-edges n (m .edges))
-      (λ es. refl) (λ es g. (refl, g)) (λ m k. (m .edges, (λ i. record { points = k .0 i; edges = m .edges }), k .1))
-      (entry-reads Edges (edges-of n) edges-text (Good-edges n) (edges-whole n)))
+    (λ es. refl) (λ es g. (refl, g)) (λ m k. (m .edges, (λ i. record { points = k .0 i; edges = m .edges }), k .1))
+    (entry-reads Edges (edges-of n) edges-text (Good-edges n) (edges-whole n)))
     (λ n m k. (k .0, subst (λ x. Good-edges x (m .edges)) (sym (k .0)) (k .1)))
     (λ m h. (refl, h))

@@ -88,6 +88,7 @@ goes-more o l ls e q = go o (edge-of l) (all-of edge-of ls) q
     next d f None t b q = refl
     next d f (Some es) true b q = ap (λ t. t && rising (f ∷ es)) b ∙ ap (λ g. rising (g ∷ es)) (some-same q)
     next d f (Some es) false b q = none-some q
+
     go : (o k : Option Edge) (p : Option (List Edge)) → after-edge o k ≡ Some e → goes-on o (both k p) ≡ goes-on (Some e) p
     go None None p q = none-some q
     go (Some d) None p q = none-some q
@@ -102,6 +103,7 @@ goes-stops o l ls q = go o (edge-of l) (all-of edge-of ls) q
     next d f None t b q = refl
     next d f (Some es) true b q = none-some (sym q)
     next d f (Some es) false b q = ap (λ t. t && rising (f ∷ es)) b
+
     go : (o k : Option Edge) (p : Option (List Edge)) → after-edge o k ≡ None → goes-on o (both k p) ≡ false
     go None None p q = refl
     go (Some d) None p q = refl

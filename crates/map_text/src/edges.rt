@@ -15,12 +15,18 @@ pub fn read_pair(text: &[u8], line: u32) -> Result<Pair<'_>, Fault>
     ensures { λ r. ⌜ Paired r (edge-of (now (text .entry))) line ⌝ }
 {
     let Some((from, to)) = cut(text, b'-') else {
-        return Err(Fault { refusal: Refusal::WrongForm, line });
+        return Err(Fault {
+            refusal: Refusal::WrongForm,
+            line,
+        });
     };
     read_natural(from, line)?;
     read_natural(to, line)?;
     if is_less(to, from) {
-        return Err(Fault { refusal: Refusal::WrongForm, line });
+        return Err(Fault {
+            refusal: Refusal::WrongForm,
+            line,
+        });
     }
     Ok(Pair { from, to })
 }
@@ -42,7 +48,10 @@ fn read_next<'a>(last: Option<Pair<'a>>, text: &'a [u8], line: u32) -> Result<Pa
         return Ok(pair);
     };
     if !is_before(before, pair) {
-        return Err(Fault { refusal: Refusal::WrongForm, line });
+        return Err(Fault {
+            refusal: Refusal::WrongForm,
+            line,
+        });
     }
     Ok(pair)
 }

@@ -14,7 +14,13 @@ pub fn read_points(text: &[u8], line: u32) -> Result<u32, Fault>
     }
     let size = read_natural(&text[1..], line)?;
     if size == 0 {
-        return Err(Fault { refusal: Refusal::WrongForm, line });
+        return Err(Fault {
+            refusal: Refusal::WrongForm,
+            line,
+        });
     }
-    Err(Fault { refusal: Refusal::WrongPoints, line })
+    Err(Fault {
+        refusal: Refusal::WrongPoints,
+        line,
+    })
 }

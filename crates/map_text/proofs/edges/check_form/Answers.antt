@@ -19,10 +19,11 @@ loop-piece-less c = cut-shorter 44 (c .loop-piece .rest .now) _ _ (c .in-Some .e
 
 pub loop-piece-again : need.loop-piece-again
 loop-piece-again c =
-    let s = c .in-Continue-read-next .ensures tt in
-    ( (s .0, s .2)
-    , ap (λ o. goes-on o (all-of edge-of (pieces (c .in-Some .more .now)))) (s .2)
-      ∙ form-more _ (c .args .text .now) (c .loop-piece .rest .now) _ _ (c .loop-piece .inv .1) (pieces-cut (c .loop-piece .rest .now) _ _ (c .in-Some .ensures tt)) (s .0) (s .1) )
+    let s = c .in-Continue-read-next .ensures tt in (
+      (s .0, s .2),
+      ap (λ o. goes-on o (all-of edge-of (pieces (c .in-Some .more .now)))) (s .2)
+          ∙ form-more _ (c .args .text .now) (c .loop-piece .rest .now) _ _ (c .loop-piece .inv .1) (pieces-cut (c .loop-piece .rest .now) _ _ (c .in-Some .ensures tt)) (s .0) (s .1),
+    )
 
 pub returns-in-Break-read-next-2 : need.returns-in-Break-read-next-2
 returns-in-Break-read-next-2 c =

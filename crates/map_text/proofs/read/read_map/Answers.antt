@@ -26,7 +26,8 @@ returns-in-Break-read-edges c =
 pub returns : need.returns
 returns c =
     let f = c .in-Continue-map .ensures tt in
-    let g = c .in-Continue-read-edges .ensures tt in
-    ( record { points = c .in-Continue-map .map .points; edges = g .0 }
-    , map-read (seen (c .args .reader .now)) _ _ _ (c .in-Continue-text .ensures tt) (c .in-Continue-map .map .points) (f .0) _ _ _ (c .in-Continue-text-2 .ensures tt) (g .0) (g .1)
-    , shown (g .0) (c .in-Continue-map .map) (c .read-edges .last .map) (f .1) (g .2) )
+    let g = c .in-Continue-read-edges .ensures tt in (
+      record { points = c .in-Continue-map .map .points; edges = g .0 },
+      map-read (seen (c .args .reader .now)) _ _ _ (c .in-Continue-text .ensures tt) (c .in-Continue-map .map .points) (f .0) _ _ _ (c .in-Continue-text-2 .ensures tt) (g .0) (g .1),
+      shown (g .0) (c .in-Continue-map .map) (c .read-edges .last .map) (f .1) (g .2),
+    )
