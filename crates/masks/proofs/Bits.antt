@@ -1,15 +1,14 @@
 -- The bits of masks: of 0, of a power of two, of `&` and `|`, and of sums with a power.
 use mathlib.Core.Path.{_≡_, refl, ap, ap₂, sym, _∙_, subst}
-use mathlib.Core.List.{List, [], _∷_}
 use mathlib.Core.Bool.{Bool, true, false, cond, not, _&&_, _||_}
 use mathlib.Core.Logic.{_⊎_, inl, inr}
-use Prim.Native.Nat.{ℕ, zero, suc, _+_, _-_, _*_, _≤_, _<_, _/_, _%_, _^_, min, max}
+use Prim.Native.Nat.{ℕ, zero, suc, _+_, _-_, _*_, _≤_, _<_, _/_, _%_, _^_}
 use native.Mathlib.Omega.{arith}
 use lib.Bits.{bitAnd, bitOr, and-shr, and-mod, or-shr, or-mod, and-mask, and-comm, and-le-l, or-disjoint, or-lt}
 use lib.Count.{ones, ones-step, ones-le}
 use lib.Dec.{eqb, ltb}
 use lib.ListN.{length}
-use Rattle.std.proofs.shelf.Bits.{shr-shr, shr-below, mod-below, pow-pos, one-shl, pow-add, shl-shr, mod-mul-add, pow-below}
+use Rattle.std.proofs.shelf.Bits.{shr-shr, shr-below, mod-below, one-shl, pow-add, shl-shr, mod-mul-add, pow-below}
 use Rattle.std.proofs.shelf.Tests.{cases-lt, cases-eq, cases-bool, eq-eqb, ne-eqb, eqb-true, true≢false, lt-ltb, le-ltb, and-left, and-right, and-from, or-right}
 use native.Mathlib.Nat.{add-zero}
 use Rattle.std.proofs.shelf.Ways.{tells}
@@ -21,7 +20,7 @@ pub shifted : (m k : ℕ) → eqb (bitAnd (m / 2 ^ k) 1) 1 ≡ has m k
 unfolding has
 shifted m k = ap (λ x. eqb x 1) (and-mask (m / 2 ^ k) 1)
 
-or-false : (b : Bool) → (b || false) ≡ b
+pub or-false : (b : Bool) → (b || false) ≡ b
 or-false true = refl
 or-false false = refl
 

@@ -1,19 +1,17 @@
 -- What a position says when it is asked: both lists of options where both have one, and its score where one is empty.
-use mathlib.Core.Path.{_≡_, refl, ap, sym, _∙_}
+use mathlib.Core.Path.{_≡_, refl, ap}
 use mathlib.Core.List.{List, [], _∷_}
-use mathlib.Core.Bool.{Bool, true, false}
-use Prim.Native.Nat.{ℕ, zero, suc, _+_, _≤_, _<_}
+use Prim.Native.Nat.{_≤_, _<_}
 use native.Mathlib.Omega.{arith}
 use lib.IntN.{ℤ}
 use lib.ListN.{length}
-use Rattle.std.specs.declared.option.Option.{Option}
-use Rattle.std.specs.declared.option.Option.the-variants.{Some, None}
+use Rattle.std.specs.declared.option.Option.the-variants.{None}
 use Rattle.std.specs.shelf.Lists.{All}
 use Rattle.terms.specs.declared.side.Side.{Side}
 use Rattle.terms.specs.declared.side.Side.the-variants.{Left, Right}
 use Rattle.terms.specs.Sides.{pick}
 use Rattle.theory.specs.Limits.{optionLimit}
-use Rattle.theory.specs.Trees.{Tree, Forest, ended, branch, one, more, trees, options, Score, Lawful, LawfulF}
+use Rattle.theory.specs.Trees.{Tree, ended, one, trees, options, Score, Lawful, LawfulF}
 use Rattle.rules.specs.Meaning.{score-of}
 use Rattle.rules.specs.Positions.{forest, position}
 

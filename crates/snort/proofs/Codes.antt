@@ -1,14 +1,14 @@
 -- The trees of codes: what the rules say of them, that nothing else agrees with the rules, and the answers to the four questions.
 use mathlib.Core.Path.{_≡_, refl, ap, ap₂, sym, _∙_, subst, subst₂}
 use mathlib.Core.List.{List, [], _∷_, map}
-use mathlib.Core.Bool.{Bool, true, false, cond, not, _&&_, _||_}
+use mathlib.Core.Bool.{Bool, true, false, cond, _&&_, _||_}
 use mathlib.Core.Logic.{_⊎_, inl, inr}
-use Prim.Native.Nat.{ℕ, zero, suc, _+_, _-_, _*_, _≤_, _<_, _/_, _%_, _^_}
+use Prim.Native.Nat.{ℕ, zero, suc, _+_, _-_, _≤_, _<_, _/_, _%_, _^_}
 use native.Mathlib.Omega.{arith}
 use lib.Bits.{bitOr, or-lt}
 use lib.Count.{ones}
-use lib.Dec.{eqb, ltb}
-use lib.IntN.{ℤ, pos, _-ℤ_}
+use lib.Dec.{eqb}
+use lib.IntN.{pos, _-ℤ_}
 use lib.ListN.{length}
 use lib.Pow.{pow-mono}
 use Rattle.std.specs.declared.option.Option.{Option}
@@ -17,24 +17,22 @@ use Rattle.std.specs.Options.{isSome}
 use Rattle.std.specs.shelf.Lists.{All}
 use Rattle.std.proofs.shelf.Bits.{pow-below}
 use Rattle.std.proofs.shelf.Lists.{length-map}
-use Rattle.std.proofs.shelf.Signed.{ints}
-use Rattle.std.proofs.shelf.Tests.{true≢false, cases-bool, cases-eq, lt-ltb, and-right, eq-eqb, ne-eqb, or-left, or-right, or-from}
+use Rattle.std.proofs.shelf.Tests.{cases-bool, cases-eq, lt-ltb, eq-eqb, ne-eqb, or-left, or-right}
 use Rattle.terms.specs.declared.side.Side.{Side}
 use Rattle.terms.specs.declared.side.Side.the-variants.{Left, Right}
 use Rattle.terms.specs.Sides.{pick}
-use Rattle.theory.specs.Limits.{optionLimit, scoreLimit}
-use Rattle.theory.specs.Trees.{Tree, ended, options, at, Score, Lawful}
+use Rattle.theory.specs.Trees.{Tree, ended, options, at}
 use Rattle.rules.specs.Meaning.{known-in, score-of, score-in, options-in, Names, Lawful-in}
 use Rattle.rules.specs.Positions.{position}
-use Rattle.rules.proofs.Options.{at-some, at-none, at-all, map-same, map-map, some-apart, all-map, same-tree}
-use Rattle.rules.proofs.Positions.{options-open, score-open, ended-left, ended-right, lawful-position}
+use Rattle.rules.proofs.Options.{at-some, at-none, at-all, map-same, map-map, some-apart, same-tree}
+use Rattle.rules.proofs.Positions.{options-open, score-open, ended-left, ended-right}
 use Rattle.masks.specs.Masks.{has, members, mask-of}
 use Rattle.masks.proofs.Members.{Member, members-same, members-all, members-few, members-none}
 use Rattle.masks.proofs.Bits.{has-or, has-zero, has-mask, added-below, mask-below, members-mask, ones-members, zero-mask, some-mask}
 use Rattle.snort.specs.declared.colours.Colours.{Colours}
 use Rattle.snort.specs.Play as play
 use Rattle.snort.specs.Play.{codeBase, growth}
-use Rattle.snort.proofs.Play.{legal-parts, uncoloured, uncoloured-same, falls, no-moves, unfold-position, Standing, standing, left-stands, right-stands, lawful-within}
+use Rattle.snort.proofs.Play.{legal-parts, uncoloured, uncoloured-same, falls, no-moves, unfold-position, standing, left-stands, right-stands, lawful-within}
 
 module _ (points : ℕ) (joined : ℕ → ℕ → Bool) (few : points ≤ 12) (symmetric : (a b : ℕ) → joined a b ≡ joined b a) where
   abbrev legal : ℕ → ℕ → ℕ → Bool

@@ -1,19 +1,19 @@
 -- The neighbours on a map: none on a fresh one, and one more pair after an edge is added.
 use mathlib.Core.Path.{_≡_, refl, ap, ap₂, sym, _∙_, subst}
-use mathlib.Core.List.{List, [], _∷_}
+use mathlib.Core.List.{List}
 use mathlib.Core.Bool.{Bool, true, false, not, _&&_, _||_}
-use mathlib.Core.Logic.{_⊎_, inl, inr, _≢_}
-use Prim.Native.Nat.{ℕ, zero, suc, _+_, _*_, _≤_, _<_, _%_, _^_}
+use mathlib.Core.Logic.{_⊎_, inl, inr}
+use Prim.Native.Nat.{ℕ, zero, suc, _*_, _≤_, _<_, _%_, _^_}
 use native.Mathlib.Omega.{arith}
 use lib.Bits.{bitAnd, bitOr, or-lt}
-use lib.Dec.{eqb, leb, ltb}
+use lib.Dec.{eqb, ltb}
 use lib.ListN.{length, getD, set, replicate}
 use Rattle.std.proofs.shelf.Bits.{one-shl, pow-below, pow-pos}
 use Rattle.std.proofs.shelf.Lists.{getD-set-same, getD-set-other, length-set}
-use Rattle.std.proofs.shelf.Tests.{cases-eq, eq-eqb, ne-eqb, and-from, and-left, and-right, or-from, lt-ltb, le-leb, not-from-false}
+use Rattle.std.proofs.shelf.Tests.{cases-eq, eq-eqb, ne-eqb, and-from, and-left, and-right, or-from, lt-ltb, not-from-false}
 use Rattle.masks.specs.Masks.{has}
-use Rattle.masks.proofs.Bits.{has-zero, has-or, has-power, meets}
-use Rattle.snort.specs.Maps.{joined, edge, edge-fits, size-fits, pointLimit}
+use Rattle.masks.proofs.Bits.{has-zero, has-or, has-power, meets, or-false}
+use Rattle.snort.specs.Maps.{joined, edge, edge-fits}
 use Rattle.snort.specs.Play.{beside}
 
 pub no-neighbours : (n k : ℕ) → _≡_ {A = ℕ} (getD (replicate n 0) k 0) 0
@@ -53,10 +53,6 @@ edge-swap false false true false = refl
 edge-swap false false false true = refl
 edge-swap false false false false = refl
 
-pub or-nothing : (b : Bool) → (b || false) ≡ b
-or-nothing true = refl
-or-nothing false = refl
-
 pub fits-from : (points a b : ℕ) → a < points → b < points → (a ≡ b → ⊥) → edge-fits points a b ≡ true
 fits-from points a b h l ne =
     and-from (ltb a points) (ltb b points && not (eqb a b)) (lt-ltb a points h) (and-from (ltb b points) (not (eqb a b)) (lt-ltb b points l) (not-from-false (eqb a b) (ne-eqb a b ne)))
@@ -92,7 +88,7 @@ module _ (points : ℕ) (near : List ℕ) (a b : ℕ) (few : points ≤ 12) (lon
 
   edge-a : (y : ℕ) → edge a b a y ≡ eqb y b
   edge-a y =
-      ap₂ (λ p q. (p && eqb y b) || (q && eqb y a)) (eq-eqb a a refl) (ne-eqb a b ne) ∙ or-nothing (eqb y b)
+      ap₂ (λ p q. (p && eqb y b) || (q && eqb y a)) (eq-eqb a a refl) (ne-eqb a b ne) ∙ or-false (eqb y b)
 
   edge-b : (y : ℕ) → edge a b b y ≡ eqb y a
   edge-b y = ap₂ (λ p q. (p && eqb y b) || (q && eqb y a)) (ne-eqb b a (λ e. ne (sym e))) (eq-eqb b b refl)
@@ -106,7 +102,7 @@ module _ (points : ℕ) (near : List ℕ) (a b : ℕ) (few : points ≤ 12) (lon
   joined-by x y (inr p) (inl e) =
       ap (λ z. joined second z y) e ∙ ap (λ m. has m y) mask-b ∙ added (getD near b 0) a y ∙ ap (λ z. joined near b y || z) (sym (edge-b y)) ∙ ap (λ z. joined near z y || edge a b z y) (sym e)
   joined-by x y (inr p) (inr q) =
-      ap (λ m. has m y) (mask-other x p q) ∙ sym (ap (λ z. joined near x y || z) (edge-other x y p q) ∙ or-nothing (joined near x y))
+      ap (λ m. has m y) (mask-other x p q) ∙ sym (ap (λ z. joined near x y || z) (edge-other x y p q) ∙ or-false (joined near x y))
 
   -- the edge is added, and nothing else changes
   pub joined-more : (x y : ℕ) → joined second x y ≡ (joined near x y || edge a b x y)

@@ -1,37 +1,24 @@
 -- The tree of a position of Snort: each move colours a point and leaves a position that may stand.
-use mathlib.Core.Path.{_≡_, refl, ap, ap₂, sym, _∙_, subst}
-use mathlib.Core.List.{List, [], _∷_, map}
-use mathlib.Core.Bool.{Bool, true, false, cond, not, _&&_, _||_}
+use mathlib.Core.Path.{_≡_, refl, ap, ap₂, sym, _∙_}
+use mathlib.Core.List.{List, [], map}
+use mathlib.Core.Bool.{Bool, true, false, not, _&&_, _||_}
 use mathlib.Core.Logic.{_⊎_, inl, inr}
-use Prim.Native.Nat.{ℕ, zero, suc, _+_, _-_, _*_, _≤_, _<_, _/_, _%_, _^_}
+use Prim.Native.Nat.{ℕ, zero, suc, _+_, _≤_, _<_, _^_}
 use native.Mathlib.Omega.{arith}
-use lib.Dec.{eqb, ltb, leb}
-use lib.IntN.{ℤ, pos, _-ℤ_}
+use lib.Dec.{eqb, ltb}
+use lib.IntN.{ℤ}
 use lib.ListN.{length}
-use Rattle.std.specs.declared.option.Option.{Option}
-use Rattle.std.specs.declared.option.Option.the-variants.{Some, None}
-use Rattle.std.specs.shelf.Lists.{All}
 use Rattle.std.proofs.shelf.Lists.{length-map}
 use Rattle.std.proofs.shelf.Signed.{ints}
-use Rattle.std.proofs.shelf.Tests.{true≢false, cases-bool, cases-eq, cases-lt, and-parts, and-from, and-left, and-right, and-cases, or-parts, or-from, or-left, or-right, not-true, not-from-true, not-from-false, ltb-true, lt-ltb, eqb-true, eq-eqb, ne-eqb}
-use Rattle.terms.specs.declared.side.Side.{Side}
-use Rattle.terms.specs.declared.side.Side.the-variants.{Left, Right}
-use Rattle.terms.specs.Sides.{pick}
-use Rattle.theory.specs.Limits.{optionLimit, scoreLimit}
+use Rattle.std.proofs.shelf.Tests.{true≢false, cases-bool, cases-eq, and-parts, and-from, and-left, and-right, and-cases, or-parts, or-from, or-right, not-true, not-from-true, not-from-false, ltb-true, lt-ltb, eq-eqb, ne-eqb}
 use Rattle.theory.specs.Trees.{Tree, ended, options, at, Score, Lawful}
-use Rattle.rules.specs.Meaning.{known-in, score-of, score-in, options-in, Names, Lawful-in}
 use Rattle.rules.specs.Positions.{position}
 use Rattle.rules.proofs.Options.{map-same, all-map}
 use Rattle.rules.proofs.Positions.{ended-left, lawful-position}
-use Rattle.masks.specs.Masks.{has, members, some-below, mask-of}
-use Rattle.masks.proofs.Members.{Member, members-same, members-all, members-few, members-none, none-passes, less, some-at, none-below, no-some}
-use Rattle.masks.proofs.Bits.{has-zero, has-added, added-below, members-mask, ones-mask, ones-members, zero-mask, some-mask}
+use Rattle.masks.specs.Masks.{has, members}
+use Rattle.masks.proofs.Members.{Member, members-same, members-all, members-few, members-none, none-passes, less, none-below, no-some}
+use Rattle.masks.proofs.Bits.{has-added, added-below, or-false}
 use Rattle.snort.specs.Play as play
-use Rattle.snort.specs.Play.{codeBase, growth}
-
-or-nothing : (b : Bool) → (b || false) ≡ b
-or-nothing true = refl
-or-nothing false = refl
 
 and-true : (b : Bool) → (b && true) ≡ b
 and-true true = refl
@@ -186,7 +173,7 @@ module _ (points : ℕ) (joined : ℕ → ℕ → Bool) where
 
       by : (j ≡ k) ⊎ (j ≡ k → ⊥) → (has right j ≡ false) × (beside right j ≡ false)
       by (inl q) = (ap (has right) q ∙ p .1, ap (beside right) q ∙ p .2)
-      by (inr q) = apart j h (sym (ap (λ b. has left j || b) (ne-eqb j k q) ∙ or-nothing (has left j)) ∙ sym (has-added left k j (p .0)) ∙ l)
+      by (inr q) = apart j h (sym (ap (λ b. has left j || b) (ne-eqb j k q) ∙ or-false (has left j)) ∙ sym (has-added left k j (p .0)) ∙ l)
 
   pub left-stands : (left right k : ℕ) → stands left right ≡ true → k < points → legal left right k ≡ true → stands (left + 2 ^ k) right ≡ true
   left-stands left right k s h e =
@@ -210,7 +197,7 @@ module _ (points : ℕ) (joined : ℕ → ℕ → Bool) where
         by : (i : ℕ) → i < points → (i ≡ k) ⊎ (i ≡ k → ⊥) → (joined j i && has (right + 2 ^ k) i) ≡ false
         by i g (inl q) = and-left (joined j i) (has (right + 2 ^ k) i) (ap (joined j) q ∙ unjoined)
         by i g (inr q) =
-            ap (λ b. joined j i && b) (has-added right k i (p .0) ∙ ap (λ b. has right i || b) (ne-eqb i k q) ∙ or-nothing (has right i)) ∙ none-below (λ i. joined j i && has right i) points none i g
+            ap (λ b. joined j i && b) (has-added right k i (p .0) ∙ ap (λ b. has right i || b) (ne-eqb i k q) ∙ or-false (has right i)) ∙ none-below (λ i. joined j i && has right i) points none i g
 
     right-apart : (left right k : ℕ) → k < points → Apart left right → legal right left k ≡ true → Apart left (right + 2 ^ k)
     right-apart left right k b apart e j h l = (by (cases-eq j k), right-beside left right k j b h e l (apart j h l .1))

@@ -1,12 +1,12 @@
 -- The trees of rows: what they are, that no others agree with the rows, and what the four questions answer of them.
-use mathlib.Core.Path.{_≡_, refl, ap, ap₂, sym, _∙_, subst}
+use mathlib.Core.Path.{_≡_, refl, ap, ap₂, sym, _∙_}
 use mathlib.Core.List.{List, [], _∷_, map}
 use mathlib.Core.Bool.{Bool, true, false, cond, _&&_}
 use mathlib.Core.Logic.{_⊎_, inl, inr}
 use Prim.Native.Nat.{ℕ, zero, suc, _+_, _-_, _≤_, _<_}
 use native.Mathlib.Omega.{arith}
 use lib.Dec.{leb, ltb}
-use lib.IntN.{ℤ, pos, negℤ}
+use lib.IntN.{ℤ}
 use lib.ListN.{length, getD, take, drop}
 use Rattle.std.specs.declared.option.Option.{Option}
 use Rattle.std.specs.declared.option.Option.the-variants.{Some, None}
@@ -15,19 +15,18 @@ use Rattle.std.proofs.shelf.Lists.{length-map, length-take, length-take-le, len
 use Rattle.std.proofs.shelf.Elements.{all-getD}
 use Rattle.std.proofs.shelf.Signed.{ints}
 use Rattle.std.proofs.shelf.Tests.{true≢false, and-parts, leb-true, ltb-true, lt-ltb, le-ltb, le-leb, cases-lt, cases-bool}
-use Rattle.std.proofs.shelf.Ways.{tells}
 use Rattle.terms.specs.declared.side.Side.{Side}
 use Rattle.terms.specs.declared.side.Side.the-variants.{Left, Right}
 use Rattle.terms.specs.Sides.{pick}
-use Rattle.theory.specs.Limits.{optionLimit, scoreLimit}
-use Rattle.theory.specs.Trees.{Tree, Forest, ended, branch, one, more, trees, options, at, Score, Lawful}
+use Rattle.theory.specs.Limits.{optionLimit}
+use Rattle.theory.specs.Trees.{Tree, ended, one, trees, options, at, Score, Lawful}
 use Rattle.rules.specs.Meaning.{known-in, score-of, score-in, options-in, Names, Lawful-in}
 use Rattle.rules.specs.Positions.{position}
 use Rattle.rules.proofs.Options.{at-past, at-map, map-same, map-map, some-apart, all-map, same-tree}
 use Rattle.rules.proofs.Positions.{options-open, score-open, lawful-position}
 use Rattle.trees.specs.declared.row.PickRun.{PickRun}
 use Rattle.trees.specs.declared.row.TreeRow.{TreeRow}
-use Rattle.trees.specs.Written.{rowLimit, pickLimit, empty, blank, named, all-above, lawful-list, score-or-zero, row-at, open-row, list-at, options-at, tree-within, tree-of-row, tree-at, Says, Agrees, Trees-as-written}
+use Rattle.trees.specs.Written.{rowLimit, pickLimit, empty, blank, named, all-above, lawful-list, score-or-zero, row-at, open-row, list-at, options-at, tree-within, tree-of-row, tree-at, Says, Trees-as-written}
 
 -- a row above the own one and below the end
 abbrev pub Above : ℕ → ℕ → ℕ → Type 0

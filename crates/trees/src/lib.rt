@@ -8,8 +8,12 @@ pub use lent::TreesRules;
 pub use row::BLANK_ROW;
 pub use row::PICK_LIMIT;
 pub use row::PickRun;
+pub use row::PickRunDebug;
+pub use row::PickRunPartialEq;
 pub use row::ROW_LIMIT;
 pub use row::TreeRow;
+pub use row::TreeRowDebug;
+pub use row::TreeRowPartialEq;
 
 #[cfg(test)]
 mod tests {

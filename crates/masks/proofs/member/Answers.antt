@@ -1,8 +1,6 @@
 use mathlib.Core.Path.{_≡_, ap, sym, _∙_}
-use mathlib.Core.List.{[]}
-use Prim.Native.Nat.{ℕ, suc, _+_, _-_, _<_}
+use Prim.Native.Nat.{suc, _+_, _-_, _<_}
 use native.Mathlib.Omega.{arith}
-use Rattle.std.specs.declared.option.Option.the-variants.{None}
 use Rattle.theory.specs.Trees.{at}
 use Rattle.masks.specs.Masks.{has, members}
 use Rattle.masks.proofs.Members.{members-start, member-here, member-next, member-passed}

@@ -1,4 +1,4 @@
-use mathlib.Core.Path.{_≡_, sym, _∙_}
+use mathlib.Core.Path.{sym}
 use Rattle.masks.proofs.Members.{some-at, some-more}
 use Rattle.snort.specs.Maps.{joined}
 use Rattle.snort.specs.Play.{clash-at}

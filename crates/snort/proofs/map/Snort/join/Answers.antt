@@ -1,6 +1,5 @@
 use mathlib.Core.Path.{_≡_, refl, sym, _∙_, ap}
-use mathlib.Core.Bool.{Bool, true, false, cond, _&&_, _||_}
-use Prim.Native.Nat.{_<_}
+use mathlib.Core.Bool.{false, cond, _&&_, _||_}
 use native.Mathlib.Omega.{arith}
 use borrow.Author.Needs.{needs}
 use lib.ListN.{length}
@@ -8,8 +7,9 @@ use Rattle.std.specs.declared.result.Result.the-variants.{Ok, Err}
 use Rattle.std.proofs.shelf.Tests.{true≢false}
 use Rattle.std.proofs.shelf.Ways.{tells}
 use Rattle.terms.specs.declared.fault.Refusal.the-variants.{WrongEdge}
+use Rattle.masks.proofs.Bits.{or-false}
 use Rattle.snort.specs.Maps.{joined, edge, edge-fits}
-use Rattle.snort.proofs.Edges.{joined-fits, within-more, loopless-more, symmetric-more, fits-from, or-nothing}
+use Rattle.snort.proofs.Edges.{joined-fits, within-more, loopless-more, symmetric-more, fits-from}
 use Rattle.snort.proofs.Codes.{by-the-rules}
 use Rattle.snort.proofs.map.Snort.join.Needs as need
 
@@ -51,7 +51,7 @@ returns-then-a-points c =
     let fits : edge-fits (c .args .self .now .points) (c .args .a) (c .args .b) ≡ false = grind (arith, tells) in
     record {
       answer = sym (ap (λ b. cond b (Ok tt) (Err WrongEdge)) fits);
-      edges = λ x y. sym (ap (λ b. joined (c .args .self .now .near) x y || (b && edge (c .args .a) (c .args .b) x y)) fits ∙ or-nothing (joined (c .args .self .now .near) x y));
+      edges = λ x y. sym (ap (λ b. joined (c .args .self .now .near) x y || (b && edge (c .args .a) (c .args .b) x y)) fits ∙ or-false (joined (c .args .self .now .near) x y));
       points = refl;
       rules = by-the-rules (c .args .self .now .points) (joined (c .args .self .now .near)) (c .args .self .now .size .1) (c .args .self .now .symmetric);
       refused = λ e. refl;

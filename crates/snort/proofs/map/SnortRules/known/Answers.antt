@@ -1,4 +1,4 @@
-use mathlib.Core.Path.{_≡_, ap, _∙_}
+use mathlib.Core.Path.{ap, _∙_}
 use Rattle.std.specs.Options.{isSome}
 use Rattle.snort.specs.Maps.{joined}
 use Rattle.snort.proofs.Codes.{answer-known}

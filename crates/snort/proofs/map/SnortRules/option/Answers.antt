@@ -1,7 +1,4 @@
-use mathlib.Core.Path.{_≡_, sym, _∙_, subst}
-use Prim.Native.Nat.{ℕ, _+_, _<_}
 use native.Mathlib.Omega.{arith}
-use Rattle.std.specs.declared.option.Option.the-variants.{Some}
 use Rattle.snort.specs.Maps.{joined}
 use Rattle.snort.proofs.Codes.{option-point, growth-low, answer-option, answer-no-option}
 use Rattle.snort.proofs.map.SnortRules.option.Needs as need

@@ -1,9 +1,8 @@
-use mathlib.Core.Path.{_≡_, ap, _∙_, sym}
-use Prim.Native.Nat.{_≤_, _<_, _+_, _-_}
+use Prim.Native.Nat.{_≤_, _+_}
 use native.Mathlib.Omega.{arith}
-use lib.ListN.{length, take, drop}
+use lib.ListN.{length, take}
 use borrow.Author.Needs.{needs}
-use Rattle.trees.specs.Written.{rowLimit, pickLimit, all-above}
+use Rattle.trees.specs.Written.{rowLimit, all-above}
 use Rattle.trees.proofs.Written.{lawful-part, lent-within}
 use Rattle.trees.proofs.lent.Trees.is_lawful.Needs as need
 

@@ -1,7 +1,6 @@
-use mathlib.Core.Path.{_≡_, sym, _∙_}
-use Prim.Native.Nat.{_≤_, _<_}
+use mathlib.Core.Path.{sym, _∙_}
 use native.Mathlib.Omega.{arith}
-use lib.ListN.{length, take}
+use lib.ListN.{take}
 use Rattle.trees.specs.Written.{rowLimit, pickLimit}
 use Rattle.trees.proofs.Written.{past-ended, row-within, open-then, open-else}
 use Rattle.trees.proofs.lent.Trees.is_open.Needs as need

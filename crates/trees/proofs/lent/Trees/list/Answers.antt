@@ -1,7 +1,3 @@
-use mathlib.Core.Path.{_≡_, sym, _∙_, ap}
-use Rattle.trees.specs.declared.row.PickRun.{PickRun}
-use Rattle.terms.specs.Sides.{pick}
-use Rattle.terms.specs.declared.side.Side.{Side}
 use Rattle.terms.specs.declared.side.Side.the-variants.{Left, Right}
 use Rattle.trees.proofs.Written.{open-counted, row-within, list-read}
 use Rattle.trees.proofs.lent.Trees.list.Needs as need

@@ -1,4 +1,4 @@
-use mathlib.Core.Path.{_≡_, ap, _∙_}
+use mathlib.Core.Path.{ap, _∙_}
 use Rattle.trees.specs.declared.row.PickRun.{PickRun}
 use Rattle.trees.proofs.Written.{answer-count}
 use Rattle.trees.proofs.lent.TreesRules.count.Needs as need

@@ -1,4 +1,4 @@
-use mathlib.Core.Path.{_≡_, ap, _∙_}
+use mathlib.Core.Path.{ap, _∙_}
 use lib.Dec.{ltb}
 use Rattle.trees.proofs.Written.{answer-known}
 use Rattle.trees.proofs.lent.TreesRules.known.Needs as need

@@ -1,9 +1,6 @@
-use mathlib.Core.Path.{_≡_, ap, _∙_, sym}
-use Prim.Native.Nat.{_≤_, _<_, _+_}
 use native.Mathlib.Omega.{arith}
-use lib.ListN.{take, length}
 use Rattle.std.proofs.shelf.Lists.{length-take}
-use Rattle.trees.specs.Written.{rowLimit, pickLimit, list-at}
+use Rattle.trees.specs.Written.{pickLimit}
 use Rattle.trees.proofs.Written.{answer-no-option, answer-option, picked}
 use Rattle.trees.proofs.lent.TreesRules.option.Needs as need
 

@@ -3,7 +3,6 @@
 use base.Fml.{Lft}
 use base.Logic.{emp, id⊢}
 use contract.BorrowLft.{_⊑_, ⊑-refl, ⊑-trans}
-use contract.Lifetimes.{Lfts}
 use contract.Running.{Running, GhostRules, givenOf, within}
 use denote.Param.{layouts}
 use denote.RattleType.{RattleType}
@@ -23,7 +22,6 @@ use prog.Model.{Model}
 use prog.Routine.{Env}
 use prog.Wired.{Wired}
 use prog.Wp.{Heap}
-use Rattle.rules.specs.contracts.rule_set.RuleSet.the-bound.{Met}
 use Rattle.rules.specs.contracts.rule_set.RuleSet.known as known·asked
 use Rattle.rules.specs.contracts.rule_set.RuleSet.score as score·asked
 use Rattle.rules.specs.contracts.rule_set.RuleSet.count as count·asked
