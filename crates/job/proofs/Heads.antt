@@ -124,4 +124,3 @@ move-reads = entry-reads key.Move (form move-of) move-text Good-move (form-whole
 pub moves-reads : Reads moves-lines moves-text Good-moves
 unfolding moves-text moves-lines
 moves-reads = counted (entry key.Moves (form (upto moveLimit))) (λ n. line key.Moves (written n)) (λ n. n ≤ moveLimit) (count-reads key.Moves moveLimit) move-line (λ m. line key.Move (move-text m)) Good-move move-reads
-

@@ -63,8 +63,8 @@ module _ (lent room : ℕ) where
   unfolding part-lines part-text
   part-reads = reads-as (part-lines lent room) _ part-text _ (Good-part lent room) (λ b. refl) (λ b g. g .1) (λ b g. (tt, g))
       (seq-reads kind (entry key.Rules (form kind-of)) _ Any (body-lines lent room) body-text Of-kind (Good-part lent room)
-        (entry-reads key.Rules (form kind-of) kind-text Any (form-whole kind-of kind-text Any kind-sound kind-complete kind-clear))
-        body-reads of-kind to-kind)
+      (entry-reads key.Rules (form kind-of) kind-text Any (form-whole kind-of kind-text Any kind-sound kind-complete kind-clear))
+      body-reads of-kind to-kind)
 
   parts-reads : Reads (parts-lines lent room) parts-text (Good-parts lent room)
   unfolding parts-lines parts-text
@@ -75,15 +75,15 @@ module _ (lent room : ℕ) where
   lines-seq =
       seq-reads (λ j. j .side) side-line _ Any _ _ (λ s j. Any (j .first) × (Good-parts lent room (j .parts) × (Good-moves (j .moves) × (j .side ≡ s)))) _ side-reads
       (λ s. seq-reads (λ j. j .first) first-line _ Any _ _ (λ f j. Good-parts lent room (j .parts) × (Good-moves (j .moves) × ((j .first ≡ f) × (j .side ≡ s)))) (λ j. Good-parts lent room (j .parts) × (Good-moves (j .moves) × (j .side ≡ s))) first-reads
-        (λ f. seq-reads (λ j. j .parts) (parts-lines lent room) parts-text (Good-parts lent room) _ _ (λ p j. Good-moves (j .moves) × ((j .parts ≡ p) × ((j .first ≡ f) × (j .side ≡ s)))) (λ j. Good-moves (j .moves) × ((j .first ≡ f) × (j .side ≡ s))) parts-reads
-          (λ p. seq-reads (λ j. j .moves) moves-lines moves-text Good-moves _ (λ j. []) (λ m j. j ≡ record { side = s; first = f; parts = p; moves = m }) (λ j. (j .parts ≡ p) × ((j .first ≡ f) × (j .side ≡ s))) moves-reads
-            (λ m. done-reads (record { side = s; first = f; parts = p; moves = m }))
-            (λ m j e. (ap (λ k. k .moves) e, (ap (λ k. k .parts) e, (ap (λ k. k .first) e, ap (λ k. k .side) e))))
-            (λ j h. λ i. record { side = h .1 .1 i; first = h .1 .0 i; parts = h .0 i; moves = j .moves }))
-          (λ p j h. (h .1 .0, (h .0, h .1 .1)))
-          (λ j h. (h .0, (refl, h .1))))
-        (λ f j h. (h .1 .1 .0, (h .0, (h .1 .0, h .1 .1 .1))))
-        (λ j h. (h .0, (h .1 .0, (refl, h .1 .1)))))
+      (λ f. seq-reads (λ j. j .parts) (parts-lines lent room) parts-text (Good-parts lent room) _ _ (λ p j. Good-moves (j .moves) × ((j .parts ≡ p) × ((j .first ≡ f) × (j .side ≡ s)))) (λ j. Good-moves (j .moves) × ((j .first ≡ f) × (j .side ≡ s))) parts-reads
+      (λ p. seq-reads (λ j. j .moves) moves-lines moves-text Good-moves _ (λ j. []) (λ m j. j ≡ record { side = s; first = f; parts = p; moves = m }) (λ j. (j .parts ≡ p) × ((j .first ≡ f) × (j .side ≡ s))) moves-reads
+      (λ m. done-reads (record { side = s; first = f; parts = p; moves = m }))
+      (λ m j e. (ap (λ k. k .moves) e, (ap (λ k. k .parts) e, (ap (λ k. k .first) e, ap (λ k. k .side) e))))
+      (λ j h. λ i. record { side = h .1 .1 i; first = h .1 .0 i; parts = h .0 i; moves = j .moves }))
+      (λ p j h. (h .1 .0, (h .0, h .1 .1)))
+      (λ j h. (h .0, (refl, h .1))))
+      (λ f j h. (h .1 .1 .0, (h .0, (h .1 .0, h .1 .1 .1))))
+      (λ j h. (h .0, (h .1 .0, (refl, h .1 .1)))))
       (λ s j h. (h .1 .1 .1, (h .0, (h .1 .0, h .1 .1 .0))))
       (λ j h. (h .0, (h .1 .0, (h .1 .1, refl))))
 
@@ -108,12 +108,15 @@ job-exact lent room bs j = ((λ n. go n (leb (length bs) longest) refl), back)
         let q = ended-ok (f .0 .0) j (f .0 .1) n (f .2) in
         let h = job-reads lent room .sound (at bs 1) (f .0 .0) (f .0 .1) (f .1) in
         (subst (Good-job lent room) (q .0) (h .0), h .1 ∙ ((λ i. job-text (q .0 i) ++ q .1 i) ∙ append-nil (job-text j)))
+
     go : (n : ℕ) (t : Bool) → leb (length bs) longest ≡ t → then {A = Unit {0}} (cond t (Ok tt) (Err (fault JobTooLong 0))) (λ u. then (job-lines lent room (at bs 1)) ended) ≡ Ok (j, n) → Says lent room bs j
     go n true t e = let h = sound n e in (leb-true (length bs) longest t, h .0, h .1)
     go n false t e = err-ok e
+
     back : Says lent room bs j → (n : ℕ) × (read-job lent room bs ≡ Ok (j, n))
     back g =
-        let h = job-reads lent room .complete j [] 1 (g .1) in
-        ( h .0 - 1
-        , ap (λ q. then {A = Unit {0}} q (λ u. then (job-lines lent room (at bs 1)) ended)) (cond-true (leb (length bs) longest) _ _ (le-leb (length bs) longest (g .0)))
-          ∙ (ap (λ x. then (job-lines lent room (at x 1)) ended) (g .2 ∙ sym (append-nil (job-text j))) ∙ then-run _ _ _ (h .1)) )
+        let h = job-reads lent room .complete j [] 1 (g .1) in (
+          h .0 - 1,
+          ap (λ q. then {A = Unit {0}} q (λ u. then (job-lines lent room (at bs 1)) ended)) (cond-true (leb (length bs) longest) _ _ (le-leb (length bs) longest (g .0)))
+              ∙ (ap (λ x. then (job-lines lent room (at x 1)) ended) (g .2 ∙ sym (append-nil (job-text j))) ∙ then-run _ _ _ (h .1)),
+        )

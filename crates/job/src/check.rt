@@ -21,11 +21,7 @@ use tree_text::clear;
 use trees::TreeRow;
 
 // All lines of a job.
-fn read_lines(
-    reader: &mut Reader,
-    rows: &mut [TreeRow],
-    picks: &mut [u8],
-) -> Result<Counts, Fault>
+fn read_lines(reader: &mut Reader, rows: &mut [TreeRow], picks: &mut [u8]) -> Result<Counts, Fault>
     ensures { λ r. ⌜ gave r (now (reader .exit)) ≡ counts-of (job-lines (length (now (rows .entry))) (min (length (now (picks .entry))) pickLimit)) (seen (now (reader .entry))) ⌝ }
 {
     read_side(reader)?;
@@ -44,9 +40,16 @@ fn read_text(job: &[u8], rows: &mut [TreeRow], picks: &mut [u8]) -> Result<Accou
     let counts = read_lines(&mut reader, rows, picks)?;
     let lines = reader.line.saturating_sub(1);
     if reader.rest.len() > 0 {
-        return Err(Fault { refusal: Refusal::BytesAfterJob, line: lines });
+        return Err(Fault {
+            refusal: Refusal::BytesAfterJob,
+            line: lines,
+        });
     }
-    Ok(Account { lines, parts: counts.parts, moves: counts.moves })
+    Ok(Account {
+        lines,
+        parts: counts.parts,
+        moves: counts.moves,
+    })
 }
 
 // Checks the text of a job, with buffers for its trees, which are blank afterwards.

@@ -19,7 +19,10 @@ fn side_of(value: &[u8], line: u32) -> Result<Side, Fault>
     } else if is(value, b"right") {
         Ok(Side::Right)
     } else {
-        Err(Fault { refusal: Refusal::WrongForm, line })
+        Err(Fault {
+            refusal: Refusal::WrongForm,
+            line,
+        })
     }
 }
 
@@ -39,7 +42,10 @@ fn first_of(value: &[u8], line: u32) -> Result<Mover, Fault>
     } else if is(value, b"theirs") {
         Ok(Mover::Theirs)
     } else {
-        Err(Fault { refusal: Refusal::WrongForm, line })
+        Err(Fault {
+            refusal: Refusal::WrongForm,
+            line,
+        })
     }
 }
 

@@ -24,7 +24,10 @@ fn kind_of(value: &[u8], line: u32) -> Result<Kind, Fault>
     } else if is(value, b"snort") {
         Ok(Kind::Snort)
     } else {
-        Err(Fault { refusal: Refusal::WrongForm, line })
+        Err(Fault {
+            refusal: Refusal::WrongForm,
+            line,
+        })
     }
 }
 

@@ -24,6 +24,7 @@ pub struct Move {
 
 // The greatest numbers of a part and of an option that a job may name.
 const LAST_PART: u16 = 7;
+
 const LAST_OPTION: u16 = 15;
 
 // The most moves of a job.
@@ -33,11 +34,17 @@ fn move_of(value: &[u8], line: u32) -> Result<Move, Fault>
     ensures { λ r. ⌜ r ≡ judged (move-of (now (value .entry))) line ⌝ }
 {
     let Some((part, option)) = cut(value, b',') else {
-        return Err(Fault { refusal: Refusal::WrongForm, line });
+        return Err(Fault {
+            refusal: Refusal::WrongForm,
+            line,
+        });
     };
     let part = read_upto(part, LAST_PART, line)?;
     let option = read_upto(option, LAST_OPTION, line)?;
-    Ok(Move { part: part as u8, option: option as u8 })
+    Ok(Move {
+        part: part as u8,
+        option: option as u8,
+    })
 }
 
 // The line move=part,option.

@@ -120,12 +120,13 @@ next-field s q t e =
     let c = with-key-ok (named (b .0)) (b .1) (a .1) (s .line) q t (b .3) in
     let d = cut-sound 61 (a .0) (b .0) (b .1) (b .2) in
     let w = named-sound keys (b .0) (q .key) (c .0) in
-    let whole : a .0 ≡ (name (q .key) ++ codes "=") ++ q .value = d .1 ∙ ((λ i. w i ++ (61 ∷ c .1 i)) ∙ sym (worded (q .key) (q .value))) in
-    ( ap (λ o. fielded (name (q .key) ++ codes "=") o (s .line)) (a .2)
-      ∙ (ap (λ x. valued (strip (name (q .key) ++ codes "=") x) (a .1) (s .line)) whole
-      ∙ (ap (λ o. valued o (a .1) (s .line)) (strip-complete (name (q .key) ++ codes "=") (q .value))
-      ∙ (λ i. Ok ((q .value, c .2 i), c .3 i))))
-    , sym (c .2) )
+    let whole : a .0 ≡ (name (q .key) ++ codes "=") ++ q .value = d .1 ∙ ((λ i. w i ++ (61 ∷ c .1 i)) ∙ sym (worded (q .key) (q .value))) in (
+      ap (λ o. fielded (name (q .key) ++ codes "=") o (s .line)) (a .2)
+          ∙ (ap (λ x. valued (strip (name (q .key) ++ codes "=") x) (a .1) (s .line)) whole
+          ∙ (ap (λ o. valued o (a .1) (s .line)) (strip-complete (name (q .key) ++ codes "=") (q .value))
+          ∙ (λ i. Ok ((q .value, c .2 i), c .3 i)))),
+      sym (c .2),
+    )
 
 -- every refusal is the same one
 with-key-err : (o : Option Key) (v r : List ℕ) (n : ℕ) (e : Fault) → with-key o v r n ≡ Err e → e ≡ fault WrongLine n
@@ -159,9 +160,10 @@ field-sound k s v n t e =
     let word = name k ++ codes "=" in
     let f = fielded-ok word (cut 10 (s .rest)) (s .line) (v, n) t e in
     let c = cut-sound 10 (s .rest) (f .0) (t .rest) (f .1) in
-    let p = strip-sound word (f .0) v (f .2) in
-    ( clear-after 10 word v (subst (Clear 10) p (c .0))
-    , c .1 ∙ (ap (λ x. x ++ (10 ∷ t .rest)) p ∙ append-assoc word v (10 ∷ t .rest)) )
+    let p = strip-sound word (f .0) v (f .2) in (
+      clear-after 10 word v (subst (Clear 10) p (c .0)),
+      c .1 ∙ (ap (λ x. x ++ (10 ∷ t .rest)) p ∙ append-assoc word v (10 ∷ t .rest)),
+    )
 
 pub field-complete : (k : Key) (v r : List ℕ) (n : ℕ) → Clear 10 v → field k (at ((name k ++ codes "=") ++ (v ++ (10 ∷ r))) n) ≡ Ok ((v, n), at r (n + 1))
 field-complete k v r n c = next-field (at ((name k ++ codes "=") ++ (v ++ (10 ∷ r))) n) (said k v n) (at r (n + 1)) (next-complete k v r n c) .0

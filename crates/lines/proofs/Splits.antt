@@ -63,4 +63,3 @@ clear-after b (x ∷ p) v c = clear-after b p v (c .1)
 
 pub cut-shorter : (b : ℕ) (xs l r : List ℕ) → Some (l, r) ≡ cut b xs → length r < length xs
 cut-shorter b xs l r e = omega (arith, ap length (cut-sound b xs l r (sym e) .1), length-append l (b ∷ r))
-

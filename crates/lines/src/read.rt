@@ -22,7 +22,10 @@ pub fn check_length(job: &[u8]) -> Result<(), Fault>
     ensures { λ r. ⌜ r ≡ fits (now (job .entry)) ⌝ }
 {
     if job.len() > LONGEST {
-        return Err(Fault { refusal: Refusal::JobTooLong, line: 0 });
+        return Err(Fault {
+            refusal: Refusal::JobTooLong,
+            line: 0,
+        });
     }
     Ok(())
 }
@@ -75,13 +78,22 @@ impl<'a> Reader<'a> {
     {
         let number = self.line;
         let Some((text, rest)) = cut(self.rest, b'\n') else {
-            return Err(Fault { refusal: Refusal::WrongLine, line: number });
+            return Err(Fault {
+                refusal: Refusal::WrongLine,
+                line: number,
+            });
         };
         let Some((name, value)) = cut(text, b'=') else {
-            return Err(Fault { refusal: Refusal::WrongLine, line: number });
+            return Err(Fault {
+                refusal: Refusal::WrongLine,
+                line: number,
+            });
         };
         let Some(key) = key_named(name) else {
-            return Err(Fault { refusal: Refusal::WrongLine, line: number });
+            return Err(Fault {
+                refusal: Refusal::WrongLine,
+                line: number,
+            });
         };
         self.rest = rest;
         self.line = number + 1;
@@ -95,7 +107,10 @@ impl<'a> Reader<'a> {
         let (line, number) = self.next_line()?;
         let (found, value) = line.parts();
         if found != key {
-            return Err(Fault { refusal: Refusal::WrongLine, line: number });
+            return Err(Fault {
+                refusal: Refusal::WrongLine,
+                line: number,
+            });
         }
         Ok((value, number))
     }

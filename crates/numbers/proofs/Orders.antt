@@ -101,6 +101,7 @@ lower-differ xs ys i h k e = (λ j. lower (drop-more xs i 0 h j) (drop-more ys i
     plain : (t : Bool) → (t || false) ≡ t
     plain true = refl
     plain false = refl
+
     differ : (x y : ℕ) (b : Bool) → (x ≡ y → ⊥) → (ltb x y || (eqb x y && b)) ≡ ltb x y
     differ x y b q = ap (λ t. ltb x y || (t && b)) (ne-eqb x y q) ∙ plain (ltb x y)
 

@@ -31,7 +31,10 @@ pub fn read_natural(text: &[u8], line: u32) -> Result<u32, Fault>
 {
     match value_of(text) {
         Some(n) => Ok(n),
-        None => Err(Fault { refusal: Refusal::WrongForm, line }),
+        None => Err(Fault {
+            refusal: Refusal::WrongForm,
+            line,
+        }),
     }
 }
 
@@ -41,7 +44,10 @@ pub fn read_upto(text: &[u8], most: u16, line: u32) -> Result<u16, Fault>
 {
     let n = read_natural(text, line)?;
     if n > u32::from(most) {
-        return Err(Fault { refusal: Refusal::WrongForm, line });
+        return Err(Fault {
+            refusal: Refusal::WrongForm,
+            line,
+        });
     }
     Ok(n as u16)
 }
@@ -54,7 +60,10 @@ pub fn read_within(text: &[u8], most: u16, line: u32) -> Result<i32, Fault>
     if text.len() > 0 && text[0] == b'-' {
         let n = read_upto(&text[1..], most, line)?;
         if n == 0 {
-            return Err(Fault { refusal: Refusal::WrongForm, line });
+            return Err(Fault {
+                refusal: Refusal::WrongForm,
+                line,
+            });
         }
         Ok(-i32::from(n))
     } else {

@@ -95,10 +95,11 @@ pub holds-push : (rows : List TreeRow) (before after : List ℕ) (xs : List Row)
     → length xs ≡ i → i < length rows → length (picks-of xs) ≡ used → r ≡ row-at used x
     → ((ys : List ℕ) → length ys ≡ used → Content 0 before ys → Content 0 after (ys ++ picked x))
     → Holds xs rows before → Holds (xs ++ (x ∷ [])) (set rows i r) after
-holds-push rows before after xs x i used r n h u e stored held =
-    ( (λ k. content-push blank rows (rows-from 0 xs) i r (rows-long 0 xs ∙ n) h (held .0) k
-      ∙ ap (λ rs. getD rs k blank) (ap (λ y. rows-from 0 xs ++ (y ∷ [])) (e ∙ ap (λ m. row-at m x) (sym u)) ∙ sym (rows-push 0 xs x ∙ ap (λ m. rows-from 0 xs ++ (row-at m x ∷ [])) (omega arith))))
-    , (λ k. stored (picks-of xs) u (held .1) k ∙ ap (λ ps. getD ps k 0) (sym (picks-push xs x))) )
+holds-push rows before after xs x i used r n h u e stored held = (
+  (λ k. content-push blank rows (rows-from 0 xs) i r (rows-long 0 xs ∙ n) h (held .0) k
+      ∙ ap (λ rs. getD rs k blank) (ap (λ y. rows-from 0 xs ++ (y ∷ [])) (e ∙ ap (λ m. row-at m x) (sym u)) ∙ sym (rows-push 0 xs x ∙ ap (λ m. rows-from 0 xs ++ (row-at m x ∷ [])) (omega arith)))),
+  (λ k. stored (picks-of xs) u (held .1) k ∙ ap (λ ps. getD ps k 0) (sym (picks-push xs x))),
+)
 
 pub holds-none : (rows : List TreeRow) (picks : List ℕ) → Blank rows picks → Holds [] rows picks
 unfolding rows-from picks-of

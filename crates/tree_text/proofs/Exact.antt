@@ -79,25 +79,27 @@ right-reads last room p = entry-reads key.Right (list-of last room p) links-text
 
 fork-reads : (last room : ℕ) (p : Place) → Reads (fork-lines last room p) row-text (Forky last room p)
 unfolding row-text
-fork-reads last room p = record
-  { sound = λ s b t e.
+fork-reads last room p = record {
+  sound = λ s b t e.
       let f = then-ok (list-line key.Left last room p s) _ _ e in
       let g = then-ok (list-line key.Right last room (behind p (f .0 .0)) (f .0 .1)) _ _ (f .2) in
       let q = ok-same (g .2) in
       let x = left-reads last room p .sound s (f .0 .0) (f .0 .1) (f .1) in
       let y = right-reads last room (behind p (f .0 .0)) .sound (f .0 .1) (g .0 .0) (g .0 .1) (g .1) in
       subst (λ w. Forky last room p (w .0) × (s .rest ≡ row-text (w .0) ++ w .1 .rest)) q
-      ((x .0, y .0), x .1 ∙ (ap (λ r. line key.Left (links-text (f .0 .0)) ++ r) (y .1) ∙ sym (append-assoc (line key.Left (links-text (f .0 .0))) (line key.Right (links-text (g .0 .0))) (g .0 .1 .rest))))
-  ; complete = complete }
+      ((x .0, y .0), x .1 ∙ (ap (λ r. line key.Left (links-text (f .0 .0)) ++ r) (y .1) ∙ sym (append-assoc (line key.Left (links-text (f .0 .0))) (line key.Right (links-text (g .0 .0))) (g .0 .1 .rest))));
+  complete = complete;
+}
   where
     complete : (b : Row) (r : List ℕ) (n : ℕ) → Forky last room p b → (m : ℕ) × (fork-lines last room p (at (row-text b ++ r) n) ≡ Ok (b, at r m))
     complete (leaf z) r n g = absurd g
     complete (fork left right) r n g =
         let x = left-reads last room p .complete left (line key.Right (links-text right) ++ r) n (g .0) in
-        let y = right-reads last room (behind p left) .complete right r (x .0) (g .1) in
-        ( y .0
-        , ap (λ z. fork-lines last room p (at z n)) (append-assoc (line key.Left (links-text left)) (line key.Right (links-text right)) r)
-          ∙ (then-run _ _ _ (x .1) ∙ then-run _ _ _ (y .1)) )
+        let y = right-reads last room (behind p left) .complete right r (x .0) (g .1) in (
+          y .0,
+          ap (λ z. fork-lines last room p (at z n)) (append-assoc (line key.Left (links-text left)) (line key.Right (links-text right)) r)
+              ∙ (then-run _ _ _ (x .1) ∙ then-run _ _ _ (y .1)),
+        )
 
 leaf-starts : (b : Row) (r : List ℕ) → Leafy b → starts (name key.End ++ codes "=") (row-text b ++ r) ≡ true
 unfolding row-text line
@@ -120,6 +122,7 @@ row-reads last room p =
     to (leaf z) (inr g) = absurd g
     to (fork l r) (inl g) = absurd g
     to (fork l r) (inr g) = g
+
     from : (b : Row) → Good-row last room p b → Leafy b ⊎ Forky last room p b
     from (leaf z) g = inl g
     from (fork l r) g = inr g
@@ -138,17 +141,18 @@ one-from zero h = absurd (omega arith)
 one-from (suc n) h = refl
 
 count-whole : (lent : ℕ) → Whole (row-count lent) written (Few lent)
-count-whole lent = record
-  { sound = λ v n k e.
+count-whole lent = record {
+  sound = λ v n k e.
       let f = then-ok (judged (at-least-one (upto rowLimit v)) n) _ _ e in
       let o = one-some (upto rowLimit v) (f .0) (judged-ok _ n (f .0) (f .1)) in
       let u = upto-sound rowLimit v (f .0) (o .1) in
-      room (f .0) k n v (o .0) (u .0) (u .1) (leb (f .0) lent) refl (f .2)
-  ; complete = λ k n g.
+      room (f .0) k n v (o .0) (u .0) (u .1) (leb (f .0) lent) refl (f .2);
+  complete = λ k n g.
       ap (λ o. then (judged (at-least-one o) n) (λ k. cond (leb k lent) (Ok k) (Err (fault TreeTooLarge n)))) (upto-complete rowLimit k (g .1))
       ∙ (ap (λ o. then (judged o n) (λ k. cond (leb k lent) (Ok k) (Err (fault TreeTooLarge n)))) (one-from k (g .0))
-      ∙ cond-true (leb k lent) _ _ (le-leb k lent (g .2)))
-  ; clear = λ k g. written-clear 10 k (omega arith) }
+      ∙ cond-true (leb k lent) _ _ (le-leb k lent (g .2)));
+  clear = λ k g. written-clear 10 k (omega arith);
+}
   where
     room : (m k n : ℕ) (v : List ℕ) → 0 < m → m ≤ rowLimit → v ≡ written m → (t : Bool) → leb m lent ≡ t → cond t (Ok m) (Err (fault TreeTooLarge n)) ≡ Ok k → Few lent k × (v ≡ written k)
     room m k n v a b w true t e = subst (λ x. Few lent x × (v ≡ written x)) (ok-same e) ((a, b, leb-true m lent t), w)

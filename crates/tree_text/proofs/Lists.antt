@@ -82,17 +82,18 @@ placed-ok room p xs n ys e = go (all-above (p .row) xs) (leb (p .used + length x
 
 pub list-whole : (last room : ℕ) (p : Place) → Whole (list-of last room p) links-text (Good-links last room p)
 unfolding links-text
-list-whole last room p = record
-  { sound = λ v n xs e.
+list-whole last room p = record {
+  sound = λ v n xs e.
       let f = then-ok (judged (links last v) n) _ _ e in
       let l = links-sound last v (f .0) (judged-ok (links last v) n (f .0) (f .1)) in
       let q = placed-ok room p (f .0) n xs (f .2) in
-      subst (λ zs. Good-links last room p zs × (v ≡ links-text zs)) (q .2) ((l .0, l .1, l .2, q .0, q .1), l .3)
-  ; complete = λ xs n g.
+      subst (λ zs. Good-links last room p zs × (v ≡ links-text zs)) (q .2) ((l .0, l .1, l .2, q .0, q .1), l .3);
+  complete = λ xs n g.
       ap (λ o. then (judged o n) (λ xs. placed room p xs n)) (links-complete last xs (g .0) (g .1) (g .2))
       ∙ (cond-true (all-above (p .row) xs) _ _ (all-above-from (p .row) xs (g .3))
-      ∙ cond-true (leb (p .used + length xs) room) _ _ (le-leb (p .used + length xs) room (g .4)))
-  ; clear = λ xs g. commas-clear (map written xs) (all-map (Clear 10) written xs (clears 10 (omega arith) xs)) }
+      ∙ cond-true (leb (p .used + length xs) room) _ _ (le-leb (p .used + length xs) room (g .4)));
+  clear = λ xs g. commas-clear (map written xs) (all-map (Clear 10) written xs (clears 10 (omega arith) xs));
+}
 
 -- the loop over the pieces
 pub begun-full : (xs : List ℕ) (f : List ℕ → Option ℕ) (l : List ℕ) (ls : List (List ℕ)) → length xs ≡ optionLimit → few (begun xs (all-of f (l ∷ ls))) ≡ None

@@ -35,17 +35,26 @@ fn read_links(value: &[u8], last: u8, line: u32) -> Result<Links, Fault>
     let mut rest = value;
     while let Some((piece, more)) = cut(rest, b',') {
         if used == MOST {
-            return Err(Fault { refusal: Refusal::WrongForm, line });
+            return Err(Fault {
+                refusal: Refusal::WrongForm,
+                line,
+            });
         }
         list[used] = read_row(piece, last, line)?;
         used += 1;
         rest = more;
     }
     if used == MOST {
-        return Err(Fault { refusal: Refusal::WrongForm, line });
+        return Err(Fault {
+            refusal: Refusal::WrongForm,
+            line,
+        });
     }
     list[used] = read_row(rest, last, line)?;
-    Ok(Links { list, used: used + 1 })
+    Ok(Links {
+        list,
+        used: used + 1,
+    })
 }
 
 // Whether each of the links is above a row.
@@ -69,10 +78,16 @@ pub fn list_of(value: &[u8], line: u32, last: u8, room: usize, place: Place) -> 
 {
     let links = read_links(value, last, line)?;
     if !is_above(&links, place.row) {
-        return Err(Fault { refusal: Refusal::RowNotAbove, line });
+        return Err(Fault {
+            refusal: Refusal::RowNotAbove,
+            line,
+        });
     }
     if place.used + links.used > room {
-        return Err(Fault { refusal: Refusal::TreeTooLarge, line });
+        return Err(Fault {
+            refusal: Refusal::TreeTooLarge,
+            line,
+        });
     }
     Ok(links)
 }

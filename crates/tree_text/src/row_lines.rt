@@ -38,7 +38,10 @@ fn fork_of(
     ensures room { λ r. ⌜ Row-fits room place r ⌝ }
 {
     let left = list_of(value, line, last, room, place)?;
-    let behind = Place { row: place.row, used: place.used + left.used };
+    let behind = Place {
+        row: place.row,
+        used: place.used + left.used,
+    };
     let right = read_list(reader, Key::Right, last, room, behind)?;
     Ok(Row::Open(left, right))
 }
@@ -56,6 +59,9 @@ pub fn read_row(reader: &mut Reader, last: u8, room: usize, place: Place) -> Res
             Ok(Row::Ended(score))
         }
         Line::Left(value) => fork_of(reader, value, number, last, room, place),
-        _ => Err(Fault { refusal: Refusal::WrongLine, line: number }),
+        _ => Err(Fault {
+            refusal: Refusal::WrongLine,
+            line: number,
+        }),
     }
 }

@@ -33,10 +33,16 @@ fn count_rows(reader: &mut Reader, lent: usize) -> Result<usize, Fault>
     let (value, line) = reader.value(Key::Rows)?;
     let n = read_upto(value, MOST_ROWS, line)?;
     if n == 0 {
-        return Err(Fault { refusal: Refusal::WrongForm, line });
+        return Err(Fault {
+            refusal: Refusal::WrongForm,
+            line,
+        });
     }
     if n as usize > lent {
-        return Err(Fault { refusal: Refusal::TreeTooLarge, line });
+        return Err(Fault {
+            refusal: Refusal::TreeTooLarge,
+            line,
+        });
     }
     Ok(n as usize)
 }
@@ -71,14 +77,24 @@ fn store(row: Row, picks: &mut [u8], used: usize) -> TreeRow
     ensures picks { λ r. ⌜ ((ys : List ℕ) → length ys ≡ used → Content 0 (now (picks .entry)) ys → Content 0 (now (picks .exit)) (ys ++ picked (as-row row))) ⌝ }
 {
     match row {
-        Row::Ended(score) => TreeRow { score, left: EMPTY_RUN, right: EMPTY_RUN },
+        Row::Ended(score) => TreeRow {
+            score,
+            left: EMPTY_RUN,
+            right: EMPTY_RUN,
+        },
         Row::Open(left, right) => {
             copy(&left, picks, used);
             copy(&right, picks, used + left.used);
             TreeRow {
                 score: 0,
-                left: PickRun { begin: used as u16, count: left.used as u8 },
-                right: PickRun { begin: (used + left.used) as u16, count: right.used as u8 },
+                left: PickRun {
+                    begin: used as u16,
+                    count: left.used as u8,
+                },
+                right: PickRun {
+                    begin: (used + left.used) as u16,
+                    count: right.used as u8,
+                },
             }
         }
     }

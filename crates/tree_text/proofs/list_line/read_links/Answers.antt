@@ -31,8 +31,8 @@ returns-in-Break-list c =
     rw (p .1, p .2)
     (ap Err (j .1)
     ∙ ap (λ o. judged o (c .args .line))
-      (ap few (sym (begun-stops xs f (c .in-Some .piece .now) (pieces (c .in-Some .more .now)) (j .0)))
-      ∙ (ap (λ ls. few (begun xs (all-of f ls))) (sym (pieces-cut (c .loop-piece .rest .now) _ _ (c .in-Some .ensures tt))) ∙ c .loop-piece .inv .2)))
+    (ap few (sym (begun-stops xs f (c .in-Some .piece .now) (pieces (c .in-Some .more .now)) (j .0)))
+    ∙ (ap (λ ls. few (begun xs (all-of f ls))) (sym (pieces-cut (c .loop-piece .rest .now) _ _ (c .in-Some .ensures tt))) ∙ c .loop-piece .inv .2)))
 
 pub loop-piece-less : need.loop-piece-less
 loop-piece-less c = cut-shorter 44 (c .loop-piece .rest .now) _ _ (c .in-Some .ensures tt)
@@ -40,12 +40,13 @@ loop-piece-less c = cut-shorter 44 (c .loop-piece .rest .now) _ _ (c .in-Some .e
 pub loop-piece-again : need.loop-piece-again
 loop-piece-again c =
     let xs = take (c .loop-piece .used) (c .loop-piece .list) in
-    let f = upto (c .args .last) in
-    ( omega arith
-    , length-set (c .loop-piece .list) (c .loop-piece .used) _ ∙ c .loop-piece .inv .1
-    , ap (λ ys. few (begun ys (all-of f (pieces (c .in-Some .more .now))))) (take-more-set (c .loop-piece .list) (c .loop-piece .used) _ (omega arith))
-      ∙ (ap few (sym (begun-more xs f (c .in-Some .piece .now) (pieces (c .in-Some .more .now)) _ (sym (judged-ok _ (c .args .line) _ (sym (c .in-Continue-list .ensures tt))))))
-      ∙ (ap (λ ls. few (begun xs (all-of f ls))) (sym (pieces-cut (c .loop-piece .rest .now) _ _ (c .in-Some .ensures tt))) ∙ c .loop-piece .inv .2)) )
+    let f = upto (c .args .last) in (
+      omega arith,
+      length-set (c .loop-piece .list) (c .loop-piece .used) _ ∙ c .loop-piece .inv .1,
+      ap (λ ys. few (begun ys (all-of f (pieces (c .in-Some .more .now))))) (take-more-set (c .loop-piece .list) (c .loop-piece .used) _ (omega arith))
+          ∙ (ap few (sym (begun-more xs f (c .in-Some .piece .now) (pieces (c .in-Some .more .now)) _ (sym (judged-ok _ (c .args .line) _ (sym (c .in-Continue-list .ensures tt))))))
+          ∙ (ap (λ ls. few (begun xs (all-of f ls))) (sym (pieces-cut (c .loop-piece .rest .now) _ _ (c .in-Some .ensures tt))) ∙ c .loop-piece .inv .2)),
+    )
 
 pub returns-then-used-eq-MOST-2 : need.returns-then-used-eq-MOST-2
 returns-then-used-eq-MOST-2 c =
@@ -63,8 +64,8 @@ returns-in-Break-list-2 c =
     rw (p .1, p .2)
     (ap Err (j .1)
     ∙ ap (λ o. judged o (c .args .line))
-      (ap few (sym (begun-stops xs f (c .loop-piece .rest .now) [] (j .0)))
-      ∙ (ap (λ ls. few (begun xs (all-of f ls))) (sym (pieces-last (c .loop-piece .rest .now) (c .in-rest .ensures tt))) ∙ c .loop-piece .inv .2)))
+    (ap few (sym (begun-stops xs f (c .loop-piece .rest .now) [] (j .0)))
+    ∙ (ap (λ ls. few (begun xs (all-of f ls))) (sym (pieces-last (c .loop-piece .rest .now) (c .in-rest .ensures tt))) ∙ c .loop-piece .inv .2)))
 
 pub returns : need.returns
 returns c =
@@ -73,6 +74,6 @@ returns c =
     let n : length (xs ++ (c .in-Continue-list-2 .field-0 ∷ [])) ≤ 16 = omega (arith, length-append xs (c .in-Continue-list-2 .field-0 ∷ []), length-take (c .loop-piece .used) (c .loop-piece .list)) in
     ap Ok (take-more-set (c .loop-piece .list) (c .loop-piece .used) _ (omega arith))
     ∙ ap (λ o. judged o (c .args .line))
-      (sym (few-begun (xs ++ (c .in-Continue-list-2 .field-0 ∷ [])) f n)
-      ∙ (ap few (sym (begun-more xs f (c .loop-piece .rest .now) [] _ (sym (judged-ok _ (c .args .line) _ (sym (c .in-Continue-list-2 .ensures tt))))))
-      ∙ (ap (λ ls. few (begun xs (all-of f ls))) (sym (pieces-last (c .loop-piece .rest .now) (c .in-rest .ensures tt))) ∙ c .loop-piece .inv .2)))
+    (sym (few-begun (xs ++ (c .in-Continue-list-2 .field-0 ∷ [])) f n)
+    ∙ (ap few (sym (begun-more xs f (c .loop-piece .rest .now) [] _ (sym (judged-ok _ (c .args .line) _ (sym (c .in-Continue-list-2 .ensures tt))))))
+    ∙ (ap (λ ls. few (begun xs (all-of f ls))) (sym (pieces-last (c .loop-piece .rest .now) (c .in-rest .ensures tt))) ∙ c .loop-piece .inv .2)))

@@ -32,6 +32,7 @@ returns-in-Left c =
     record { row = c .fork-of .ensures .row ∙ w; room = c .fork-of .ensures .room }
 
 pub returns-in-rest : need.returns-in-rest
-returns-in-rest c = record
-  { row = line-wrong (c .args .last) (c .args .room) (c .args .place) (seen (c .args .reader .now)) (c .in-Continue-line .line) (c .in-Continue-line .number) (seen (c .next-line .last .self)) (c .in-Continue-line .ensures tt) (c .in-rest .not-End) (c .in-rest .not-Left)
-  ; room = tt }
+returns-in-rest c = record {
+  row = line-wrong (c .args .last) (c .args .room) (c .args .place) (seen (c .args .reader .now)) (c .in-Continue-line .line) (c .in-Continue-line .number) (seen (c .next-line .last .self)) (c .in-Continue-line .ensures tt) (c .in-rest .not-End) (c .in-rest .not-Left);
+  room = tt;
+}

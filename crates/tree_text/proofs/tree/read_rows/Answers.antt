@@ -31,13 +31,16 @@ loop-i-again c =
     let long : length (picked x) ≡ more = c .picks-used .ensures .long in
     let fits : c .loop-i .used + picks-in row ≤ c .args .room = c .in-Continue-row .ensures tt .room in
     let used = used-is (w .0) i (c .loop-i .used) (w .2) in
-    let next : c .loop-i .used + length (picked x) ≡ c .loop-i .used + more = omega arith in
-    ( omega (arith, c .picks-used .ensures .count)
-    , ( w .0 ++ (x ∷ [])
-      , omega (arith, length-append (w .0) (x ∷ []), w .1)
-      , led-push top (w .0) x ∙ (ap (λ p. after-row p x) (w .2) ∙ ap (λ m. record { row = i + 1; used = m }) next)
-      , holds-push (c .loop-i .rows) (c .loop-i .picks) (c .store .last .picks) (w .0) x i (c .loop-i .used) (c .store .result) (w .1) (omega arith) used (c .store .ensures .row) (c .store .ensures .picks) (w .3)
-      , turn-more (c .args .n) (c .args .room) (w .0) i (c .loop-i .used) (seen (c .loop-i .reader)) (seen (c .args .reader .now)) x (seen (c .read-row .last .reader)) (c .loop-i .used + more) (omega arith) (c .in-Continue-row .ensures tt .row) next (w .4) ) )
+    let next : c .loop-i .used + length (picked x) ≡ c .loop-i .used + more = omega arith in (
+      omega (arith, c .picks-used .ensures .count),
+      (
+        w .0 ++ (x ∷ []),
+        omega (arith, length-append (w .0) (x ∷ []), w .1),
+        led-push top (w .0) x ∙ (ap (λ p. after-row p x) (w .2) ∙ ap (λ m. record { row = i + 1; used = m }) next),
+        holds-push (c .loop-i .rows) (c .loop-i .picks) (c .store .last .picks) (w .0) x i (c .loop-i .used) (c .store .result) (w .1) (omega arith) used (c .store .ensures .row) (c .store .ensures .picks) (w .3),
+        turn-more (c .args .n) (c .args .room) (w .0) i (c .loop-i .used) (seen (c .loop-i .reader)) (seen (c .args .reader .now)) x (seen (c .read-row .last .reader)) (c .loop-i .used + more) (omega arith) (c .in-Continue-row .ensures tt .row) next (w .4),
+      ),
+    )
 
 pub returns : need.returns
 returns c =

@@ -11,6 +11,7 @@ returns-in-Open c =
     let r = c .in-Open .right in
     let m : length (listed l) ≡ l .used = omega (arith, length-take (l .used) (l .list), l .few) in
     let n : length (listed r) ≡ r .used = omega (arith, length-take (r .used) (r .list), r .few) in
-    record
-    { row = open-row (c .args .used) (c .args .row) l r (c .in-Open .is) m n
-    ; picks = open-picks (c .args .picks .now) (c .copy .last .picks) (c .copy-in-Open .last .picks) (c .args .used) (c .args .row) l r (c .in-Open .is) m (c .copy .ensures) (c .copy-in-Open .ensures) }
+    record {
+      row = open-row (c .args .used) (c .args .row) l r (c .in-Open .is) m n;
+      picks = open-picks (c .args .picks .now) (c .copy .last .picks) (c .copy-in-Open .last .picks) (c .args .used) (c .args .row) l r (c .in-Open .is) m (c .copy .ensures) (c .copy-in-Open .ensures);
+    }

@@ -20,4 +20,4 @@ pub returns : need.returns
 returns c =
     ap (λ v. Ok ((v, c .in-Continue-line .number), seen (c .next-line .last .self))) (c .parts-found .ensures .value)
     ∙ same-key (c .args .key) (seen (c .args .self .now)) _ _ (c .in-Continue-line .ensures tt)
-      (sym (c .parts-found .ensures .key) ∙ same-said (c .ne .ensures .0) (c .ne .ensures .1) (c .ne .ensures .2) (c .if-ne .left))
+    (sym (c .parts-found .ensures .key) ∙ same-said (c .ne .ensures .0) (c .ne .ensures .1) (c .ne .ensures .2) (c .if-ne .left))

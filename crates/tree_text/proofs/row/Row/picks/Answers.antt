@@ -12,6 +12,7 @@ returns-in-Open c =
     let r = c .in-Open .right in
     let m : length (listed l) ≡ l .used = omega (arith, length-take (l .used) (l .list), l .few) in
     let n : length (listed r) ≡ r .used = omega (arith, length-take (r .used) (r .list), r .few) in
-    record
-    { count = ap picks-in (sym (c .in-Open .is))
-    ; long = ap (λ x. length (picked (as-row x))) (c .in-Open .is) ∙ (length-append (listed l) (listed r) ∙ (λ i. m i + n i)) }
+    record {
+      count = ap picks-in (sym (c .in-Open .is));
+      long = ap (λ x. length (picked (as-row x))) (c .in-Open .is) ∙ (length-append (listed l) (listed r) ∙ (λ i. m i + n i));
+    }
