@@ -1,0 +1,5 @@
+pub mod Seatings
+pub mod Calls
+pub mod Game
+pub mod Stories
+pub mod Promise
