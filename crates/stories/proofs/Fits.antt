@@ -22,15 +22,17 @@ use Rattle.theory.specs.Trees.{Tree, ended, branch, Ended}
 use Rattle.theory.specs.Fair.{Fair}
 use Rattle.theory.specs.Walls.{temperature}
 use Rattle.theory.specs.Sums.{hottest, All}
+use Rattle.theory.proofs.Parts.{all-at}
 use Rattle.theory.proofs.Sente as sente
+use Rattle.theory.proofs.Plays.{clash}
 use Rattle.theory.proofs.Search.{by-bool}
 use Rattle.stories.specs.declared.turn.Turn.{Turn}
 use Rattle.stories.specs.declared.turn.Turn.the-variants.{Ours, Theirs, Over}
 use Rattle.stories.specs.Calls.{Call, move, reply, ask}
-use Rattle.stories.specs.Game.{Game, anyOpen, turnTo, opening, find, ourPick, theirPick, moved, hotter, cooled, replied, unlessRefused, step, floorAt, floorOf, Advises}
+use Rattle.stories.specs.Game.{Game, anyOpen, turnTo, opening, find, ourPick, theirPick, moved, hotter, cooled, replied, unlessRefused, step, floorAt, floorOf, Advises, Settled}
 use Rattle.stories.specs.Stories.{Sum, byMove, handTo, played, orSame}
 use Rattle.stories.proofs.Places.{none-some, at-set}
-use Rattle.stories.proofs.Moves.{okMap, ties, found, finds, no-move}
+use Rattle.stories.proofs.Moves.{okMap, ties, found, finds, no-move, all-shut, shut-ended}
 use Rattle.stories.proofs.Floors.{settle, Ready, our-move, fair-after, reply-pending, reply-cool}
 
 abbrev pub state : Side → List Tree → Turn → ℕ → Option ℕ → Game
@@ -200,3 +202,36 @@ their-pick s g z p k (fit-over xs w a d f e) = pick-none (played s (sum xs w) (r
 their-pick s g z p k (fit-ours xs a d f h r) = pick-none None NotTheirTurn refl
 their-pick s g z p k (fit-theirs xs a f h) =
     subst (λ m. Pick (handTo mover.Ours m) (find (other s) xs p k)) (sym (ties (other s) xs p k)) (pick-found xs mover.Ours p (find (other s) xs p k))
+
+-- ---- the parts, and the turn that is over
+pub record Ends (g : Game) (z : Sum) : Type 0 where
+  pub parts : g .parts ≡ z .trees
+  pub over : g .turn ≡ Over → All Ended (z .trees)
+  pub ended : All Ended (z .trees) → g .turn ≡ Over
+  pub settled : Settled g
+
+some-left : {P : Type 0} (xs : List Tree) → sente.Hottest xs → All Ended xs → P
+some-left xs (x, q, i, c) e = absurd (clash x i (all-at Ended q e))
+
+going-on : (s : Side) (xs : List Tree) (t : Turn) (a : ℕ) (d : Option ℕ) (w : Mover) → (t ≡ Over → ⊥) → sente.Hottest xs → Ends (state s xs t a d) (sum xs w)
+going-on s xs t a d w n h = record {
+  parts = refl;
+  over = λ e. absurd (n e);
+  ended = λ e. some-left xs h e;
+  settled = record { over = λ e. absurd (n e); shut = λ e. some-left xs h (shut-ended xs e) };
+}
+
+abbrev IsOver : Turn → Type 0
+IsOver Ours = ⊥
+IsOver Theirs = ⊥
+IsOver Over = Unit {0}
+
+pub fit-ends : (s : Side) (g : Game) (z : Sum) → Fit s g z → Ends g z
+fit-ends s g z (fit-over xs w a d f e) = record {
+  parts = refl;
+  over = λ _. e;
+  ended = λ _. refl;
+  settled = record { over = λ _. all-shut xs e; shut = λ _. refl };
+}
+fit-ends s g z (fit-ours xs a d f h r) = going-on s xs Ours a d mover.Ours (λ e. subst IsOver (sym e) tt) h
+fit-ends s g z (fit-theirs xs a f h) = going-on s xs Theirs a None mover.Theirs (λ e. subst IsOver (sym e) tt) h

@@ -5,4 +5,5 @@ pub mod Fits
 pub mod Seats
 pub mod Best
 pub mod Goes
+pub mod Openings
 pub mod Promise

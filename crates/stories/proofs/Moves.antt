@@ -1,5 +1,5 @@
 -- The options that the game finds are the moves of the sum; which parts are open, and how hot they are.
-use mathlib.Core.Bool.{Bool, true, false, _||_}
+use mathlib.Core.Bool.{Bool, true, false, true≢false, _||_}
 use mathlib.Core.List.{List, [], _∷_}
 use mathlib.Core.Logic.{_⊎_, inl, inr}
 use mathlib.Core.Path.{_≡_, refl, sym, _∙_, ap, subst}
@@ -111,9 +111,19 @@ pub open-under : (y : Tree) (t : ℕ) → (Open y → temperature y ≤ t) → t
 open-under (ended v) t h = ended-cool t (ended v) tt
 open-under (branch L R) t h = h tt
 
-pub under-hottest : (xs : List Tree) → All (λ y. temperature y ≤ hottest xs) xs
-under-hottest xs = go xs (hottest xs) (omega arith)
-  where
-    go : (ys : List Tree) (t : ℕ) → hottest ys ≤ t → All (λ y. temperature y ≤ t) ys
-    go [] t h = tt
-    go (y ∷ ys) t h = (omega arith, go ys t (omega arith))
+pub over-hottest : (xs : List Tree) (p : ℕ) (x : Tree) → at xs p ≡ Some x → temperature x ≤ hottest xs
+over-hottest [] p x e = none-some x e
+over-hottest (y ∷ xs) zero x e = subst (λ z. temperature z ≤ hottest (y ∷ xs)) (some-same y x e) (omega arith)
+over-hottest (y ∷ xs) (suc p) x e = omega (arith, over-hottest xs p x e)
+
+pub ended-hottest : (xs : List Tree) → All Ended xs → hottest xs ≡ 0
+ended-hottest [] h = refl
+ended-hottest (x ∷ xs) h = omega (arith, ended-cool 0 x (h .0), ended-hottest xs (h .1))
+
+pub shut-ended : (xs : List Tree) → anyOpen xs ≡ false → All Ended xs
+shut-ended [] e = tt
+shut-ended (ended v ∷ xs) e = (tt, shut-ended xs e)
+shut-ended (branch L R ∷ xs) e = absurd (true≢false e)
+
+pub shut-cool : (xs : List Tree) → anyOpen xs ≡ false → hottest xs ≡ 0
+shut-cool xs e = ended-hottest xs (shut-ended xs e)

@@ -22,10 +22,10 @@ use Rattle.theory.proofs.Sente as sente
 use Rattle.theory.proofs.Plays.{clash}
 use Rattle.stories.specs.Calls.{Call, move, reply, ask}
 use Rattle.stories.specs.Seatings.{seated}
-use Rattle.stories.specs.Game.{Game, opening, step, ourPick, theirPick, floorOf}
+use Rattle.stories.specs.Game.{Game, opening, step, ourPick, theirPick, floorOf, Settled}
 use Rattle.stories.specs.Stories.{Story, opens, _then_, ourSide, Sum, played, orSame, sumAfter, Allowed, countIf, moveCount, firstTrees, bestPlay, gameAfter}
 use Rattle.stories.specs.Promise.{floorAnswered, bracketAnswered, AsAdvised, so-far, asked, advised, refused, replied, bestForUs, greatestTemperature, ComesToEnd, ended, ours, theirs, GoesOn, SureFloor, SureBracket, Agrees, Promise}
-use Rattle.stories.proofs.Fits.{sum, Fit, fit-over, fit-ours, fit-theirs, at-opening, fit-step, advised-keeps, reply-keeps, refused-same, refused-reply, our-pick, their-pick}
+use Rattle.stories.proofs.Fits.{sum, Fit, fit-over, fit-ours, fit-theirs, at-opening, fit-step, advised-keeps, reply-keeps, refused-same, refused-reply, our-pick, their-pick, fit-ends}
 use Rattle.stories.proofs.Seats.{seated-fair}
 use Rattle.stories.proofs.Best.{floor-sound, opening-close, bracket-holds}
 use Rattle.stories.proofs.Goes.{one-advised, advised-moves, they-move, advised-only, shorter}
@@ -154,5 +154,19 @@ sure-floor s = record {
 pub sure-bracket : (s : Story) → SureBracket s (bracketAnswered s)
 sure-bracket s = let (a, b) = bracket-holds (ourSide s) (gameAfter s) (sumAfter s) (fits s) in record { low = a; high = b }
 
+-- the turn is over exactly when no part is open
+pub settled-after : (s : Story) → Settled (gameAfter s)
+settled-after s = fit-ends (ourSide s) (gameAfter s) (sumAfter s) (fits s) .settled
+
 pub promise : Promise
-promise s = record { floor = sure-floor s; bracket = sure-bracket s; moves = move-agrees s; replies = reply-agrees s }
+promise s =
+    let E = fit-ends (ourSide s) (gameAfter s) (sumAfter s) (fits s) in
+    record {
+      parts = E .parts;
+      over = E .over;
+      ended = E .ended;
+      floor = sure-floor s;
+      bracket = sure-bracket s;
+      moves = move-agrees s;
+      replies = reply-agrees s;
+    }

@@ -47,6 +47,11 @@ anyOpen (x ∷ xs) = isOpen x || anyOpen xs
 abbrev pub turnTo : Turn → List Tree → Turn
 turnTo t xs = cond (anyOpen xs) t Over
 
+-- over exactly when no part is open
+pub record Settled (g : Game) : Type 0 where
+  pub over : g .turn ≡ Over → anyOpen (g .parts) ≡ false
+  pub shut : anyOpen (g .parts) ≡ false → g .turn ≡ Over
+
 abbrev pub turnOf : Mover → Turn
 turnOf mover.Ours = Ours
 turnOf mover.Theirs = Theirs
@@ -147,10 +152,16 @@ pub record Advises (g : Game) (p k : ℕ) : Type 0 where
   pub there : at (g .parts) p ≡ Some tree
   pub option : First Any (near (g .side) (g .ambient)) (options tree (g .side)) k
 
--- what is answered when advice is asked for: it is refused away from our turn
+-- why advice is refused
+abbrev pub notOurs : Turn → Option Refusal
+notOurs Ours = None
+notOurs Theirs = Some NotOurTurn
+notOurs Over = Some GameOver
+
+-- what is answered when advice is asked for
 abbrev pub AdviceIs : Game → Result (ℕ × ℕ) Refusal → Type 0
 AdviceIs g (Ok a) = Advises g (a .0) (a .1)
-AdviceIs g (Err r) = elim (g .turn) [ Ours ↦ ⊥ | Theirs ↦ r ≡ NotOurTurn | Over ↦ r ≡ GameOver ]
+AdviceIs g (Err r) = notOurs (g .turn) ≡ Some r
 
 -- ---- floor and bracket, in units
 abbrev pub nearWalls : Side → ℕ → List Tree → ℤ

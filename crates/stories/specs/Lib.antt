@@ -3,3 +3,4 @@ pub mod Calls
 pub mod Game
 pub mod Stories
 pub mod Promise
+pub mod Laws

@@ -11,6 +11,7 @@ use Rattle.terms.specs.Sides.{own}
 use Rattle.theory.specs.Limits.{unit}
 use Rattle.theory.specs.Trees.{Tree}
 use Rattle.theory.specs.Sums.{Over, total, span, hottest}
+use Rattle.stories.specs.declared.turn.Turn.the-variants as turn
 use Rattle.stories.specs.Calls.{Question, Call, move, reply, ask}
 use Rattle.stories.specs.Game.{ourPick, theirPick, floorOf, bracketOf, Advises}
 use Rattle.stories.specs.Stories.{Story, _then_, ourSide, sumAfter, Allowed, Refused, moveCount, firstTrees, bestPlay, gameAfter}
@@ -93,6 +94,10 @@ pub record SureBracket (s : Story) (b : ℤ × ℤ) : Type 0 where
   pub high : bestForLeft s ≤ℤ (b .1)
 
 pub record Promised (s : Story) : Type 0 where
+  -- the parts of the game are the trees of the sum, and it is over exactly when that has ended
+  pub parts : gameAfter s .parts ≡ sumAfter s .trees
+  pub over : gameAfter s .turn ≡ turn.Over → IsEnded s
+  pub ended : IsEnded s → gameAfter s .turn ≡ turn.Over
   pub floor : SureFloor s (floorAnswered s)
   pub bracket : SureBracket s (bracketAnswered s)
   pub moves : (p k : ℕ) → Agrees s (move p k) (ourPick (gameAfter s) p k)

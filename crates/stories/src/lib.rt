@@ -3,6 +3,7 @@
 mod laws;
 mod turn;
 
+pub use laws::openings_agree;
 pub use laws::promise_holds;
 pub use turn::Turn;
 pub use turn::TurnDebug;
