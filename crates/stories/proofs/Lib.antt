@@ -7,3 +7,4 @@ pub mod Best
 pub mod Goes
 pub mod Openings
 pub mod Promise
+pub mod Worked

@@ -1,17 +1,22 @@
 -- The promise, by induction over stories.
+use mathlib.Core.Bool.{Bool, true, false, cond}
 use mathlib.Core.List.{List, []}
 use mathlib.Core.Logic.{_⊎_, inl, inr}
 use mathlib.Core.Path.{_≡_, refl, sym, _∙_, ap, subst}
-use Prim.Native.Nat.{ℕ, zero, suc, _+_, _≤_}
+use Prim.Native.Nat.{ℕ, zero, suc, min, _+_, _≤_}
 use native.Mathlib.Omega.{arith}
 use lib.IntN.{pos, _+ℤ_, _*ℤ_}
+use lib.ListN.{set}
 use lib.Signed.{_≤ℤ_}
 use borrow.Author.Differences.{ints}
 use Rattle.std.specs.declared.option.Option.{Option}
 use Rattle.std.specs.declared.option.Option.the-variants.{Some, None}
+use Rattle.std.specs.declared.result.Result.{Result}
+use Rattle.std.specs.declared.result.Result.the-variants.{Ok, Err}
 use Rattle.terms.specs.declared.side.Side.{Side}
 use Rattle.terms.specs.declared.side.Mover.{Mover}
 use Rattle.terms.specs.declared.side.Mover.the-variants as mover
+use Rattle.terms.specs.declared.fault.Refusal.{Refusal}
 use Rattle.terms.specs.Sides.{own}
 use Rattle.theory.specs.Limits.{unit}
 use Rattle.theory.specs.Trees.{Tree, Ended}
@@ -22,7 +27,8 @@ use Rattle.theory.proofs.Sente as sente
 use Rattle.theory.proofs.Plays.{clash}
 use Rattle.stories.specs.Calls.{Call, move, reply, ask}
 use Rattle.stories.specs.Seatings.{seated}
-use Rattle.stories.specs.Game.{Game, opening, step, ourPick, theirPick, floorOf, Settled}
+use Rattle.stories.specs.Game.{Game, opening, step, ourPick, theirPick, unlessRefused, moved, hotter, anyOpen, floorOf, Settled}
+use Rattle.stories.specs.Game as rules
 use Rattle.stories.specs.Stories.{Story, opens, _then_, ourSide, Sum, played, orSame, sumAfter, Allowed, countIf, moveCount, firstTrees, bestPlay, gameAfter}
 use Rattle.stories.specs.Promise.{floorAnswered, bracketAnswered, AsAdvised, so-far, asked, advised, refused, replied, bestForUs, greatestTemperature, ComesToEnd, ended, ours, theirs, GoesOn, SureFloor, SureBracket, Agrees, Promise}
 use Rattle.stories.proofs.Fits.{sum, Fit, fit-over, fit-ours, fit-theirs, at-opening, fit-step, advised-keeps, reply-keeps, refused-same, refused-reply, our-pick, their-pick, fit-ends}
@@ -158,6 +164,26 @@ sure-bracket s = let (a, b) = bracket-holds (ourSide s) (gameAfter s) (sumAfter 
 pub settled-after : (s : Story) → Settled (gameAfter s)
 settled-after s = fit-ends (ourSide s) (gameAfter s) (sumAfter s) (fits s) .settled
 
+-- ---- the ambient
+unless-cool : (g : Game) (f : Tree → Game) (r : Result Tree Refusal) → ((o : Tree) → f o .ambient ≤ g .ambient) → unlessRefused g f r .ambient ≤ g .ambient
+unless-cool g f (Err n) h = omega arith
+unless-cool g f (Ok o) h = h o
+
+cond-cool : (b : Bool) (n : ℕ) (g h : Game) → g .ambient ≤ n → h .ambient ≤ n → cond b g h .ambient ≤ n
+cond-cool true n g h k l = k
+cond-cool false n g h k l = l
+
+cooled-cool : (a : ℕ) (xs : List Tree) (b : Bool) → cond b (min a (hottest xs)) a ≤ a
+cooled-cool a xs true = omega arith
+cooled-cool a xs false = omega arith
+
+ambient-falls : (g : Game) (c : Call) → step g c .ambient ≤ g .ambient
+ambient-falls g (move p k) = unless-cool g (moved g p) (ourPick g p k) (λ o. omega arith)
+ambient-falls g (reply p k) =
+    unless-cool g (rules.replied g p) (theirPick g p k)
+    (λ o. cond-cool (hotter (g .ambient) o) (g .ambient) _ _ (omega arith) (cooled-cool (g .ambient) (set (g .parts) p o) (anyOpen (set (g .parts) p o))))
+ambient-falls g (ask q) = omega arith
+
 pub promise : Promise
 promise s =
     let E = fit-ends (ourSide s) (gameAfter s) (sumAfter s) (fits s) in
@@ -165,6 +191,7 @@ promise s =
       parts = E .parts;
       over = E .over;
       ended = E .ended;
+      ambient = λ c. ambient-falls (gameAfter s) c;
       floor = sure-floor s;
       bracket = sure-bracket s;
       moves = move-agrees s;

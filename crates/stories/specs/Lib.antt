@@ -4,3 +4,4 @@ pub mod Game
 pub mod Stories
 pub mod Promise
 pub mod Laws
+pub mod Worked

@@ -98,6 +98,8 @@ pub record Promised (s : Story) : Type 0 where
   pub parts : gameAfter s .parts ≡ sumAfter s .trees
   pub over : gameAfter s .turn ≡ turn.Over → IsEnded s
   pub ended : IsEnded s → gameAfter s .turn ≡ turn.Over
+  -- no call makes the ambient rise
+  pub ambient : (c : Call) → gameAfter (s then c) .ambient ≤ gameAfter s .ambient
   pub floor : SureFloor s (floorAnswered s)
   pub bracket : SureBracket s (bracketAnswered s)
   pub moves : (p k : ℕ) → Agrees s (move p k) (ourPick (gameAfter s) p k)

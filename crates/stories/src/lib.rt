@@ -5,6 +5,7 @@ mod turn;
 
 pub use laws::openings_agree;
 pub use laws::promise_holds;
+pub use laws::worked_story;
 pub use turn::Turn;
 pub use turn::TurnDebug;
 pub use turn::TurnPartialEq;
