@@ -2,3 +2,4 @@ pub mod Record
 pub mod Standing
 pub mod Leads
 pub mod Answers
+pub mod Behind

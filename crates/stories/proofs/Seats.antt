@@ -1,10 +1,12 @@
 -- What is seated is fair.
 use mathlib.Core.Bool.{Bool, true, false, cond, not}
 use mathlib.Core.List.{List, [], _∷_, _++_}
-use mathlib.Core.Path.{_≡_, refl, sym, subst}
-use Prim.Native.Nat.{_+_}
+use mathlib.Core.Path.{_≡_, refl, sym, ap, subst}
+use Prim.Native.Nat.{suc, _+_, _≤_, _<_}
+use native.Mathlib.Omega.{arith}
 use lib.Dec.{T, ltb, leb, nltb→le}
 use lib.ListN.{length}
+use Rattle.std.proofs.shelf.Tests.{leb-false}
 use Rattle.std.specs.declared.option.Option.{Option}
 use Rattle.std.specs.declared.option.Option.the-variants.{Some, None}
 use Rattle.terms.specs.declared.fault.Refusal.{Refusal}
@@ -53,3 +55,22 @@ pub seated-fair : (held : List Tree) (ms : List (Option Tree)) → Meant ms → 
 seated-fair held [] l f = f
 seated-fair held (None ∷ ms) l f = seated-fair held ms (l .1) f
 seated-fair held (Some x ∷ ms) l f = seated-fair (seat held (Some x)) ms (l .1) (seat-fair held x (l .0) f)
+
+-- ---- what is seated is not too much
+length-snoc : (xs : List Tree) (x : Tree) → length (xs ++ (x ∷ [])) ≡ suc (length xs)
+length-snoc [] x = refl
+length-snoc (y ∷ xs) x = ap suc (length-snoc xs x)
+
+seat-few : (held : List Tree) (x : Tree) → length held ≤ partLimit → length (seat held (Some x)) ≤ partLimit
+seat-few held x h = go (cause held (Some x)) refl
+  where
+    go : (m : Option Refusal) → cause held (Some x) ≡ m → length {A = Tree} (elim m [ None ↦ held ++ (x ∷ []) | Some r ↦ held ]) ≤ partLimit
+    go None e =
+        let room : length held < partLimit = leb-false partLimit (length held) (next (leb partLimit (length held)) PartsFull (misfit held x) e .0) in
+        omega (arith, length-snoc held x)
+    go (Some n) e = h
+
+pub seated-few : (held : List Tree) (ms : List (Option Tree)) → length held ≤ partLimit → length (seated held ms) ≤ partLimit
+seated-few held [] h = h
+seated-few held (None ∷ ms) h = seated-few held ms h
+seated-few held (Some x ∷ ms) h = seated-few (seat held (Some x)) ms (seat-few held x h)
