@@ -1,0 +1,4 @@
+pub mod Records
+pub mod Fronts
+pub mod Answering
+pub mod Tales

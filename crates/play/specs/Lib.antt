@@ -1,0 +1,5 @@
+pub mod Record
+pub mod Standing
+pub mod Leads
+pub mod Answers
+pub mod Behind

@@ -1,0 +1,7 @@
+pub mod Seatings
+pub mod Calls
+pub mod Game
+pub mod Stories
+pub mod Promise
+pub mod Laws
+pub mod Worked
