@@ -4,7 +4,7 @@ use mathlib.Core.List.{List, [], _∷_, _++_, map}
 use mathlib.Core.Path.{_≡_, refl, sym, _∙_, ap, subst}
 use Prim.Native.Nat.{ℕ, zero, suc, _+_, _<_}
 use native.Mathlib.Omega.{arith}
-use lib.IntN.{ℤ, pos, _+ℤ_, _-ℤ_, _*ℤ_}
+use lib.IntN.{ℤ, pos, _+ℤ_, _-ℤ_}
 use lib.ListN.{length, getD, take}
 use borrow.Author.Differences.{ints}
 use Rattle.std.proofs.shelf.Lists.{take-more}
@@ -12,25 +12,22 @@ use Rattle.std.specs.Options.{valueOr}
 use Rattle.std.specs.declared.option.Option.{Option}
 use Rattle.std.specs.declared.option.Option.the-variants.{Some, None}
 use Rattle.std.specs.declared.result.Result.{Result}
-use Rattle.std.specs.declared.result.Result.the-variants.{Ok, Err}
 use Rattle.terms.specs.declared.side.Side.{Side}
 use Rattle.terms.specs.declared.side.Side.the-variants.{Left, Right}
 use Rattle.terms.specs.declared.fault.Refusal.{Refusal}
-use Rattle.terms.specs.declared.fault.Refusal.the-variants.{GameOver, NotOurTurn}
 use Rattle.terms.specs.Sides.{other}
-use Rattle.theory.specs.Limits.{unit}
 use Rattle.theory.specs.Trees.{Tree, at}
 use Rattle.theory.specs.Walls.{mean}
-use Rattle.theory.specs.Sums.{sumOf, hottest, low, high, total}
+use Rattle.theory.specs.Sums.{sumOf, hottest, low, high}
 use Rattle.stories.specs.declared.turn.Turn.{Turn}
 use Rattle.stories.specs.declared.turn.Turn.the-variants.{Ours, Theirs, Over}
-use Rattle.stories.specs.Game.{Game, anyOpen, near, far, nearWalls, nearWallsBut, scoreUnits, floorHere, floorAt, floorOf, bracketAt, bracketOf, Main, Settled, notOurs}
+use Rattle.stories.specs.Game.{Game, anyOpen, near, far, nearWalls, nearWallsBut, floorHere, floorAt, bracketAt, Main, Settled, notOurs}
 use Rattle.stories.proofs.Places.{none-some, some-same}
 use Rattle.stories.proofs.Moves.{shut-cool, shut-ended}
 use Rattle.stories.proofs.Openings.{ended-near, ended-means}
 use Rattle.play.specs.declared.record.Play.{Play}
 use Rattle.play.specs.declared.leads.Lead.{Lead}
-use Rattle.play.specs.Standing.{present, gameOf, hottestOf}
+use Rattle.play.specs.Standing.{present, gameOf}
 use Rattle.play.specs.Leads.{HottestOf}
 use Rattle.play.specs.Answers.{sumZ, floorBy, bracketBy, bracketTo, partBy, advisedBy, GainIs, FloorIs, BracketIs, MainOf, PartIs}
 

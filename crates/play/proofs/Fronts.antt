@@ -1,9 +1,9 @@
 -- The loops that keep the greatest so far: what they find is the first of the greatest.
-use mathlib.Core.Bool.{Bool, true, false, cond, not}
+use mathlib.Core.Bool.{cond, not}
 use mathlib.Core.List.{List, [], _∷_, map}
 use mathlib.Core.Logic.{_⊎_, inl, inr}
 use mathlib.Core.Path.{_≡_, refl, sym, _∙_, ap, subst}
-use Prim.Native.Nat.{ℕ, zero, suc, _+_, max, _≤_, _<_}
+use Prim.Native.Nat.{ℕ, zero, suc, _+_, _≤_, _<_}
 use native.Mathlib.Omega.{arith}
 use native.Mathlib.Decide.{decLt}
 use lib.Dec.{T, leb, leb→le, nleb→lt}
@@ -17,7 +17,6 @@ use Rattle.std.specs.declared.option.Option.the-variants.{Some, None}
 use Rattle.theory.specs.Trees.{Tree, ended, branch, at, Open, Ended}
 use Rattle.theory.specs.Walls.{temperature}
 use Rattle.theory.specs.Sums.{hottest, All}
-use Rattle.stories.specs.Game.{First, Any, heat, anyOpen}
 use Rattle.stories.proofs.Places.{none-some, some-same}
 use Rattle.stories.proofs.Moves.{all-shut, hottest-under, open-under, over-hottest}
 use Rattle.play.specs.Standing.{heatOf}
@@ -88,9 +87,6 @@ front-more hs i (Some b) (Some x) e F =
           subst (λ c. Front hs (i + 1) (cond c (Some b) (Some (lead i x)))) (sym q)
           (takes hs i x e (λ j t l f. omega (arith, F .most j t l f)))
     ]
-
-pub front-none : (hs : List (Option ℕ)) → Front hs 0 None
-front-none hs j h = absurd (omega arith)
 
 -- ---- of the trees
 open-heat : (x : Tree) → Open x → heatOf x ≡ Some (temperature x)

@@ -1,7 +1,7 @@
 -- The record goes as the game does.
 use mathlib.Core.Bool.{Bool, true, false, cond}
 use mathlib.Core.List.{List, [], _∷_}
-use mathlib.Core.Path.{_≡_, refl, sym, _∙_, ap, subst}
+use mathlib.Core.Path.{_≡_, refl, sym, _∙_, ap}
 use Prim.Native.Nat.{ℕ, zero, suc, min, _≤_}
 use native.Mathlib.Omega.{arith}
 use lib.ListN.{length, set, replicate}
@@ -22,15 +22,15 @@ use Rattle.encoding.specs.Columns.{partLimit}
 use Rattle.stories.specs.declared.turn.Turn.{Turn}
 use Rattle.stories.specs.declared.turn.Turn.the-variants.{Ours, Theirs, Over}
 use Rattle.stories.specs.Calls.{move, reply}
-use Rattle.stories.specs.Game.{Game, anyOpen, turnTo, turnOf, find, moved, hotter, cooled, replied, unlessRefused, step, ourPick, theirPick, opening}
+use Rattle.stories.specs.Game.{Game, anyOpen, turnTo, turnOf, moved, hotter, cooled, replied, unlessRefused, step, ourPick, theirPick, opening}
 use Rattle.stories.proofs.Places.{none-some, some-same}
 use Rattle.stories.proofs.Moves.{shut-cool}
 use Rattle.stories.proofs.Fits.{state}
 use Rattle.play.specs.declared.record.Play.{Play}
 use Rattle.play.specs.declared.record.Event.the-variants.{Move, Reply}
 use Rattle.play.specs.declared.record.Landing.{Landing}
-use Rattle.play.specs.Record.{turnBy, hotterThan, cooledBy, byMove, byReply, unless, after, done, answer}
-use Rattle.play.specs.Standing.{present, gameOf, heatOf, hottestOf, Lands, Leads, Opens, OurMove, TheirReply}
+use Rattle.play.specs.Record.{turnBy, hotterThan, cooledBy, atFirst, byMove, byReply, after, done, answer}
+use Rattle.play.specs.Standing.{present, gameOf, heatOf, Lands, Leads, Opens, OurMove, TheirReply}
 
 -- ---- the present trees
 pub present-set : (ts : List Tree) (rows : List ℕ) (p r : ℕ) (t : Tree) → at ts p ≡ Some t → present ts (set rows p r) ≡ set (present ts rows) p (row t r)
@@ -67,7 +67,7 @@ value-of xs true e = refl
 value-of xs false e = sym (shut-cool xs e)
 
 pub opens-so : (m : Mover) (h : Option ℕ) (t : Turn) (a : ℕ) → t ≡ turnBy (turnOf m) h → a ≡ valueOr h 0
-    → Opens m h (record { rows = replicate partLimit 0; turn = t; ambient = a; pending = None })
+    → Opens m h (atFirst t a)
 opens-so m h t a e f ts s l q =
     let turn : t ≡ turnTo (turnOf m) ts = e ∙ ap (turnBy (turnOf m)) q ∙ turn-by (turnOf m) (anyOpen ts) (hottest ts) in
     let ambient : a ≡ hottest ts = f ∙ ap (λ o. valueOr o 0) q ∙ value-of ts (anyOpen ts) refl in

@@ -1,14 +1,14 @@
 -- What the calls of a play do to the story behind it.
-use mathlib.Core.Path.{_≡_, refl, sym, _∙_, ap, subst}
+use mathlib.Core.Path.{refl, sym, _∙_, ap, subst}
 use mathlib.Core.List.{List, []}
 use native.Mathlib.Omega.{arith}
-use Rattle.std.specs.declared.result.Result.the-variants.{Ok, Err}
+use Rattle.std.specs.declared.result.Result.the-variants.{Err}
 use Rattle.terms.specs.declared.side.Side.{Side}
 use Rattle.theory.specs.Trees.{Tree, options}
 use Rattle.stories.specs.Seatings.{seated}
-use Rattle.stories.specs.Calls.{move, reply, ask}
+use Rattle.stories.specs.Calls.{move, reply}
 use Rattle.stories.specs.Game.{Game, near, floorOf, bracketOf, step, ourPick, theirPick, Advises, AdviceIs, Settled}
-use Rattle.stories.specs.Stories.{Story, opens, _then_, gameAfter}
+use Rattle.stories.specs.Stories.{Story, gameAfter}
 use Rattle.stories.specs.Promise.{SureFloor, SureBracket}
 use Rattle.stories.proofs.Seats.{seated-few}
 use Rattle.stories.proofs.Promise.{sure-floor, sure-bracket, settled-after}

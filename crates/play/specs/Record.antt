@@ -2,7 +2,7 @@
 use mathlib.Core.Bool.{Bool, false, cond}
 use Prim.Native.Nat.{ℕ, min, _<_}
 use lib.Dec.{ltb}
-use lib.ListN.{set}
+use lib.ListN.{set, replicate}
 use Rattle.std.specs.declared.option.Option.{Option}
 use Rattle.std.specs.declared.option.Option.the-variants.{Some, None}
 use Rattle.std.specs.declared.result.Result.{Result}
@@ -28,6 +28,9 @@ hotterThan a (Some t) = ltb a t
 abbrev pub cooledBy : ℕ → Option ℕ → ℕ
 cooledBy a None = a
 cooledBy a (Some t) = min a t
+
+abbrev pub atFirst : Turn → ℕ → Play
+atFirst t a = record { rows = replicate partLimit 0; turn = t; ambient = a; pending = None }
 
 abbrev pub byMove : Play → Landing → Play
 byMove y l =

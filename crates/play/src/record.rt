@@ -1,6 +1,6 @@
 ghost use mathlib.Core.Path.{_≡_};
 ghost use Rattle.stories.specs.Game.{turnOf};
-ghost use Rattle.play.specs.Record.{turnBy, hotterThan, cooledBy, after, answer, Inside};
+ghost use Rattle.play.specs.Record.{turnBy, hotterThan, cooledBy, atFirst, after, answer, Inside};
 ghost use Rattle.play.specs.Standing.{Opens, OurMove, TheirReply};
 use encoding::PART_LIMIT;
 use stories::Turn;
@@ -78,10 +78,16 @@ impl Play {
     pub fn open(first: Mover, hottest: Option<u32>) -> Play
         ensures { λ r. ⌜ Opens first hottest r ⌝ }
     {
+        Play::at_first_rows(turn_to(first_turn(first), hottest), hottest.unwrap_or(0))
+    }
+
+    fn at_first_rows(turn: Turn, ambient: u32) -> Play
+        ensures { λ r. ⌜ r ≡ atFirst turn ambient ⌝ }
+    {
         Play {
             rows: [0; PART_LIMIT],
-            turn: turn_to(first_turn(first), hottest),
-            ambient: hottest.unwrap_or(0),
+            turn,
+            ambient,
             pending: None,
         }
     }

@@ -19,8 +19,7 @@ use Rattle.theory.specs.Fair.{Fair}
 use Rattle.theory.specs.Sums.{total, span, sumStop, bestScore, hottest, All}
 use Rattle.theory.proofs.Sente as sente
 use Rattle.theory.proofs.Floors.{opening-loss}
-use Rattle.stories.specs.declared.turn.Turn.{Turn}
-use Rattle.stories.specs.declared.turn.Turn.the-variants.{Ours, Theirs, Over}
+use Rattle.stories.specs.declared.turn.Turn.the-variants.{Ours, Theirs}
 use Rattle.stories.specs.Game.{Game, opening, floorAt, floorOf, bracketOf}
 use Rattle.stories.specs.Stories.{Sum, sideOf, bestPlay}
 use Rattle.stories.proofs.Places.{place}

@@ -14,7 +14,7 @@ use Rattle.std.specs.declared.option.Option.the-variants.{Some, None}
 use Rattle.terms.specs.declared.side.Side.{Side}
 use Rattle.terms.specs.declared.side.Side.the-variants.{Left, Right}
 use Rattle.terms.specs.Sides.{other}
-use Rattle.theory.specs.Trees.{Tree, options, at, Open, Ended}
+use Rattle.theory.specs.Trees.{Tree, options, at, Ended}
 use Rattle.theory.specs.Fair.{Fair}
 use Rattle.theory.specs.Walls.{wall, temperature}
 use Rattle.theory.specs.Sums.{Part, put, sumOf, hottest, All}

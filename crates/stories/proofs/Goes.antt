@@ -22,7 +22,6 @@ use Rattle.theory.specs.Sums.{Part, span, All}
 use Rattle.theory.proofs.Parts.{span-put}
 use Rattle.theory.proofs.Sente as sente
 use Rattle.theory.proofs.Plays.{option-lower}
-use Rattle.stories.specs.declared.turn.Turn.{Turn}
 use Rattle.stories.specs.declared.turn.Turn.the-variants.{Ours, Theirs, Over}
 use Rattle.stories.specs.Calls.{Call, move, reply, ask}
 use Rattle.stories.specs.Game.{First, Any, heat, Game, find, near, Main, Advises}

@@ -3,22 +3,20 @@ use mathlib.Core.List.{List, [], _∷_}
 use mathlib.Core.Path.{_≡_, refl, sym, _∙_, ap}
 use Prim.Native.Nat.{ℕ}
 use native.Mathlib.Omega.{arith}
-use lib.IntN.{ℤ, pos, _*ℤ_}
+use lib.IntN.{ℤ}
 use borrow.Author.Differences.{ints}
 use Rattle.std.specs.declared.option.Option.the-variants.{None}
 use Rattle.terms.specs.declared.side.Side.{Side}
 use Rattle.terms.specs.declared.side.Side.the-variants.{Left, Right}
 use Rattle.terms.specs.Sides.{other}
-use Rattle.theory.specs.Limits.{unit}
 use Rattle.theory.specs.Trees.{Tree, ended, branch, Ended}
 use Rattle.theory.specs.Walls.{mean}
-use Rattle.theory.specs.Sums.{sumOf, total, hottest, low, high, All}
+use Rattle.theory.specs.Sums.{sumOf, hottest, low, high, All}
 use Rattle.theory.specs.Sente.{idle, theirs, floor}
 use Rattle.theory.proofs.Sente as sente
 use Rattle.theory.proofs.Clauses.{ended-mean}
-use Rattle.stories.specs.declared.turn.Turn.{Turn}
-use Rattle.stories.specs.declared.turn.Turn.the-variants.{Ours, Theirs, Over}
-use Rattle.stories.specs.Game.{near, nearWalls, floorAt, bracketAt, scoreUnits}
+use Rattle.stories.specs.declared.turn.Turn.the-variants.{Ours, Theirs}
+use Rattle.stories.specs.Game.{nearWalls, floorAt, bracketAt, scoreUnits}
 use Rattle.stories.specs.Laws.{Openings-agree}
 use Rattle.stories.proofs.Moves.{ended-hottest}
 use Rattle.stories.proofs.Floors.{near-sum, settle}

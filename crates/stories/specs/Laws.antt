@@ -1,7 +1,6 @@
 -- At an opening the game's floor and bracket are those of the theory of sums.
 use mathlib.Core.List.{List}
 use mathlib.Core.Path.{_≡_}
-use lib.IntN.{ℤ}
 use Rattle.terms.specs.declared.side.Side.{Side}
 use Rattle.terms.specs.declared.side.Mover.the-variants.{Ours, Theirs}
 use Rattle.terms.specs.Sides.{other}

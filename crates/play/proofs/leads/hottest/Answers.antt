@@ -1,8 +1,8 @@
-use mathlib.Core.Path.{_≡_, refl, sym, subst}
+use mathlib.Core.Path.{refl, sym, subst}
 use native.Mathlib.Omega.{arith}
 use Prim.Native.Nat.{_+_}
 use Rattle.play.specs.Leads.{Front}
-use Rattle.play.proofs.Fronts.{front-none, front-more, hottest-so}
+use Rattle.play.proofs.Fronts.{front-more, hottest-so}
 use Rattle.play.proofs.leads.hottest.Needs as need
 
 pub loop-i-again : need.loop-i-again

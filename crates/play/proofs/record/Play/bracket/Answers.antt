@@ -1,7 +1,6 @@
-use mathlib.Core.Path.{_≡_, _∙_, ap}
+use mathlib.Core.Path.{_∙_, ap}
 use native.Mathlib.Omega.{arith}
 use Rattle.std.proofs.shelf.Signed.{ints}
-use Rattle.std.specs.Options.{valueOr}
 use Rattle.play.specs.Answers.{sumZ, bracketTo}
 use Rattle.play.proofs.Answering.{bracket-so}
 use Rattle.play.proofs.record.Play.bracket.Needs as need
