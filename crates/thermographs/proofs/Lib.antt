@@ -6,3 +6,4 @@ pub mod OpenRow
 pub mod Options
 pub mod Strips
 pub mod Pass
+pub mod Told

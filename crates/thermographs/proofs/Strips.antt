@@ -12,10 +12,12 @@ use Rattle.std.specs.shelf.Lists.{between, paste}
 use Rattle.terms.specs.declared.side.Side.{Side}
 use Rattle.terms.specs.declared.side.Side.the-variants.{Left, Right}
 use Rattle.theory.specs.Trees.{Tree}
+use Rattle.spreading.proofs.Rows.{length-positions}
 use Rattle.theory.specs.Corners.{cornersOf}
-use Rattle.spreading.specs.Order.{none}
+use Rattle.spreading.specs.Order.{none, positions, row}
 use Rattle.thermographs.specs.declared.figures.Figures.{Figures}
-use Rattle.thermographs.specs.Figures.{corners-of, strip, figures-of, wall-of, run, Tells}
+use Rattle.thermographs.specs.Figures.{corners-of, strip, before, figures-of, figures-at, wall-of, run, Tells}
+use Rattle.thermographs.specs.Laws.{Figures-tell}
 use Rattle.thermographs.proofs.OpenRow.{corners-are, corners-many}
 
 strip-none : strip [] ≡ []
@@ -92,3 +94,24 @@ tells-new n p s x e = record {
 pub take-new : (n : ℕ) (strips strips′ cs : List ℕ) → n ≤ length strips → strips′ ≡ paste strips n cs (length cs) → take (n + length cs) strips′ ≡ take n strips ++ (cs ++ [])
 take-new n strips strips′ cs room e =
     ap (take (n + length cs)) e ∙ take-paste strips n cs (length cs) room (omega arith) ∙ ap (λ (l : List ℕ). take n strips ++ l) (take-all (length cs) cs (omega arith) ∙ sym (append-nil cs))
+
+-- ---- a row's corners among all
+strip-split : (xs : List Tree) (i : ℕ) → (rest : List ℕ) × (strip xs ≡ strip (drop i xs) ++ rest)
+strip-split xs zero = ([], sym (append-nil (strip xs)))
+strip-split [] (suc i) = ([], sym (append-nil (strip [])))
+strip-split (x ∷ xs) (suc i) =
+    let (rest, e) = strip-split xs i in
+    (rest ++ corners-of x, strip-cons x xs ∙ ap (λ (l : List ℕ). l ++ corners-of x) e ∙ append-assoc (strip (drop i xs)) rest (corners-of x))
+
+regroup : (front s c rest back : List ℕ) → front ++ (((s ++ c) ++ rest) ++ back) ≡ (front ++ s) ++ (c ++ (rest ++ back))
+regroup front s c rest back = simp append-assoc
+
+pub figures-tell : Figures-tell
+figures-tell t i lt front back =
+    let xs = positions t in
+    let (rest, e) = strip-split xs i in
+    let whole : strip xs ≡ (strip (drop (suc i) xs) ++ corners-of (row t i)) ++ rest = e ∙ ap (λ (l : List ℕ). l ++ rest) (strip-more xs i (omega (arith, length-positions t))) in
+    let all : front ++ (strip xs ++ back) ≡ (front ++ strip (drop (suc i) xs)) ++ (corners-of (row t i) ++ (rest ++ back)) =
+    ap (λ (l : List ℕ). front ++ (l ++ back)) whole ∙ regroup front (strip (drop (suc i) xs)) (corners-of (row t i)) rest back in
+    subst (λ (l : List ℕ). Tells l (figures-at t (length front) i) (row t i)) (sym all)
+    (tells-new (length front + before t i) (front ++ strip (drop (suc i) xs)) (rest ++ back) (row t i) (length-append front (strip (drop (suc i) xs))))

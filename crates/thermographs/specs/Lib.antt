@@ -2,3 +2,4 @@ pub mod Figures
 pub mod Near
 pub mod Sweep
 pub mod Rows
+pub mod Laws

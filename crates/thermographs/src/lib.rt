@@ -2,6 +2,7 @@
 
 mod figures;
 mod near;
+mod reading;
 mod rows;
 mod sweep;
 
@@ -13,4 +14,6 @@ pub use figures::FiguresPartialEq;
 pub use figures::Wall;
 pub use figures::WallDebug;
 pub use figures::WallPartialEq;
+pub use reading::figures_tell_walls;
+pub use reading::wall_at;
 pub use rows::figure_rows;
