@@ -1,0 +1,5 @@
+pub mod Figures
+pub mod Near
+pub mod Sweep
+pub mod Rows
+pub mod Laws
