@@ -7,3 +7,4 @@ pub mod Options
 pub mod Strips
 pub mod Pass
 pub mod Told
+pub mod Worked
