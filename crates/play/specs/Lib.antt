@@ -1,0 +1,4 @@
+pub mod Record
+pub mod Standing
+pub mod Leads
+pub mod Answers

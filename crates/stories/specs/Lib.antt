@@ -1,0 +1,6 @@
+pub mod Seatings
+pub mod Calls
+pub mod Game
+pub mod Stories
+pub mod Promise
+pub mod Laws
