@@ -1,0 +1,4 @@
+pub mod Figures
+pub mod Near
+pub mod Sweep
+pub mod Rows
