@@ -1,0 +1,6 @@
+pub mod Counts
+pub mod Causes
+pub mod Drafting
+pub mod Places
+pub mod Sets
+pub mod Trees

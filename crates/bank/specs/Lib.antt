@@ -1,0 +1,5 @@
+pub mod Held
+pub mod Drafts
+pub mod Placing
+pub mod Contents
+pub mod Seats

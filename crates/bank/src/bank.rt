@@ -1,0 +1,40 @@
+ghost use mathlib.Core.Path.{_≡_};
+ghost use mathlib.Core.List.{List, []};
+ghost use Rattle.theory.specs.Trees.{Tree};
+ghost use Rattle.bank.specs.Held.{Held, Filled, Within};
+ghost use Rattle.bank.specs.Placing.{Judged, Placed};
+use crate::columns::Columns;
+use rules::RuleSet;
+use terms::Refusal;
+
+// At most 8 parts, 1,024 rows and 1,024 corners. A bank always holds the rows, figures and corners of
+// some trees, and nothing else.
+#[derive(Drop)]
+pub struct Bank {
+    columns: Columns,
+    ghost within: { Within columns },
+    ghost filled: { Filled columns },
+}
+
+impl Bank {
+    pub(crate) fn empty() -> Bank
+        ensures { λ r. ⌜ Held (r .columns) [] ⌝ }
+    {
+        Bank {
+            columns: Columns::blank(),
+        }
+    }
+
+    pub(crate) fn columns(&self) -> &Columns
+        ensures { λ r. ⌜ now r ≡ now (self .entry) .columns ⌝ }
+    {
+        &self.columns
+    }
+
+    pub(crate) fn place<R: RuleSet>(&mut self, rules: &R, code: u32) -> Result<u8, Refusal>
+        ensures judged { λ r. ⌜ Judged (now (self .entry) .columns) (tree (now (rules .entry)) code) r ⌝ }
+        ensures placed { λ r. ⌜ ((ts : List Tree) → Held (now (self .entry) .columns) ts → Placed ts (tree (now (rules .entry)) code) r (now (self .entry) .columns) (now (self .exit) .columns)) ⌝ }
+    {
+        self.columns.place(rules, code)
+    }
+}
