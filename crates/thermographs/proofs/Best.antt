@@ -1,17 +1,17 @@
 -- The best near wall, option by option from the last to the first.
 use mathlib.Core.List.{List, [], _∷_}
 use mathlib.Core.Path.{_≡_, refl, sym, ap, subst, _∙_}
-use Prim.Native.Nat.{ℕ, suc, _+_, _-_, _<_, _≤_}
+use Prim.Native.Nat.{ℕ, _+_, _<_}
 use native.Mathlib.Omega.{arith}
-use lib.IntN.{ℤ, negℤ}
+use lib.IntN.{ℤ}
 use lib.ListN.{length, getD, drop}
 use Rattle.std.proofs.shelf.Lists.{drop-more, drop-all, length-drop}
-use Rattle.std.proofs.shelf.Signed.{ints, clamps}
+use Rattle.std.proofs.shelf.Signed.{ints}
 use Rattle.terms.specs.declared.side.Side.{Side}
 use Rattle.terms.specs.declared.side.Side.the-variants.{Left, Right}
 use Rattle.terms.specs.Sides.{other, own}
 use Rattle.walls.specs.declared.piece.Piece.{Piece}
-use Rattle.walls.specs.Pieces.{greaterOf, Linear, Tame, Ranged}
+use Rattle.walls.specs.Pieces.{greaterOf, Linear, Ranged}
 use Rattle.thermographs.specs.declared.figures.Figures.{Figures}
 use Rattle.thermographs.specs.Figures.{blank, wall-of}
 use Rattle.thermographs.specs.Near.{near, best, Sound-near}

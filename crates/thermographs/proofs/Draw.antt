@@ -1,20 +1,19 @@
 -- Along a side's wall up to the temperature: what is written are the corners that draw it.
 use mathlib.Core.Bool.{Bool, true, false, cond, not}
-use mathlib.Core.List.{List, [], _∷_}
-use mathlib.Core.Logic.{_⊎_, inl, inr}
+use mathlib.Core.List.{List}
+use mathlib.Core.Logic.{inl, inr}
 use mathlib.Core.Path.{_≡_, refl, sym, ap, subst, _∙_}
-use Prim.Native.Nat.{ℕ, zero, suc, _+_, _-_, min, _<_, _≤_}
+use Prim.Native.Nat.{ℕ, suc, _+_, _-_, min, _<_, _≤_}
 use native.Mathlib.Omega.{arith}
 use lib.IntN.{ℤ, pos, _+ℤ_, _-ℤ_}
 use lib.ListN.{length, getD, set, take}
-use lib.Signed.{_≤ℤ_}
 use Rattle.std.proofs.shelf.Edits.{paste-none, paste-more}
-use Rattle.std.proofs.shelf.Lists.{length-set, take-set-le, take-take}
+use Rattle.std.proofs.shelf.Lists.{length-set, take-set-le}
 use Rattle.std.proofs.shelf.Signed.{ints}
 use Rattle.std.proofs.shelf.Tests.{both-ways}
 use Rattle.std.specs.declared.option.Option.the-variants.{Some, None}
 use Rattle.std.specs.shelf.Lists.{paste}
-use Rattle.theory.specs.Corners.{Ordered, rise, step}
+use Rattle.theory.specs.Corners.{Ordered, step}
 use Rattle.walls.specs.declared.corner.Trail.{Trail}
 use Rattle.walls.specs.declared.piece.Piece.{Piece}
 use Rattle.walls.specs.Pieces.{bit, climb, Linear}

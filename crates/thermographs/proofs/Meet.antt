@@ -1,11 +1,10 @@
 -- From one event to the next until the scaffolds have met.
-use mathlib.Core.Bool.{Bool, true, false}
 use mathlib.Core.List.{List, [], _∷_}
 use mathlib.Core.Logic.{inl, inr}
-use mathlib.Core.Path.{_≡_, refl, sym, ap, subst, _∙_}
+use mathlib.Core.Path.{_≡_, sym, subst}
 use Prim.Native.Nat.{ℕ, zero, suc, _+_, _-_, _*_, _<_, _≤_}
 use native.Mathlib.Omega.{arith}
-use lib.IntN.{ℤ, pos, negℤ, _+ℤ_, _-ℤ_}
+use lib.IntN.{ℤ, pos, _+ℤ_, _-ℤ_}
 use lib.ListN.{length, getD}
 use lib.Signed.{_≤ℤ_, _<ℤ_}
 use Rattle.std.proofs.shelf.Signed.{ints, clamps}
@@ -13,7 +12,7 @@ use Rattle.std.proofs.shelf.Tests.{cases-lt}
 use Rattle.terms.specs.declared.side.Side.{Side}
 use Rattle.theory.specs.Limits.{wallLimit}
 use Rattle.walls.specs.declared.piece.Piece.{Piece}
-use Rattle.walls.specs.Pieces.{climb, greaterOf, Linear, Tame, Ranged}
+use Rattle.walls.specs.Pieces.{climb, Linear, Tame, Ranged}
 use Rattle.walls.proofs.Straight.{linear-at}
 use Rattle.thermographs.specs.declared.figures.Figures.{Figures}
 use Rattle.thermographs.specs.Figures.{blank}

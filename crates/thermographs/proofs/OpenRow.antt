@@ -1,21 +1,19 @@
 -- An open position's row, from where its scaffolds meet and from its two walls' corners.
-use mathlib.Core.List.{List, [], _∷_, _++_}
+use mathlib.Core.List.{List, [], _++_}
 use mathlib.Core.Path.{_≡_, refl, sym, ap, subst, _∙_}
-use Prim.Native.Nat.{ℕ, _+_, _-_, _<_, _≤_}
+use Prim.Native.Nat.{ℕ, _+_, _-_, _≤_}
 use native.Mathlib.Omega.{arith}
-use lib.IntN.{ℤ, pos, negℤ, _*ℤ_}
+use lib.IntN.{ℤ, pos, _*ℤ_}
 use lib.ListN.{length, take, length-append}
 use Rattle.std.proofs.shelf.Edits.{paste-paste, paste-none}
-use Rattle.std.proofs.shelf.Lists.{take-take}
 use Rattle.std.proofs.shelf.Signed.{ints}
 use Rattle.std.specs.declared.option.Option.{Option}
-use Rattle.std.specs.declared.option.Option.the-variants.{Some, None}
+use Rattle.std.specs.declared.option.Option.the-variants.{Some}
 use Rattle.std.specs.shelf.Lists.{paste}
-use Rattle.terms.specs.declared.side.Side.{Side}
 use Rattle.terms.specs.declared.side.Side.the-variants.{Left, Right}
 use Rattle.theory.specs.Limits.{unit}
 use Rattle.theory.specs.Trees.{Tree, Forest, ended, branch}
-use Rattle.theory.specs.Walls.{wall, temperature, mean}
+use Rattle.theory.specs.Walls.{temperature, mean}
 use Rattle.theory.specs.Corners.{Ordered, cornersOf}
 use Rattle.theory.proofs.Clauses.{ended-wall, ended-temperature, ended-mean, ended-corners}
 use Rattle.theory.proofs.Corners.{wall-corners}

@@ -1,8 +1,8 @@
 -- The pass over the rows from the last to the first.
-use mathlib.Core.List.{List, [], _∷_, _++_}
+use mathlib.Core.List.{List, [], _++_}
 use mathlib.Core.Logic.{_≢_}
 use mathlib.Core.Path.{_≡_, refl, sym, ap, subst, _∙_}
-use Prim.Native.Nat.{ℕ, zero, suc, _+_, _-_, _<_, _≤_}
+use Prim.Native.Nat.{ℕ, suc, _+_, _<_, _≤_}
 use native.Mathlib.Omega.{arith}
 use lib.ListN.{length, getD, set, take, drop, length-append}
 use Rattle.std.proofs.shelf.Counted.{fill-by-all}
@@ -11,7 +11,6 @@ use Rattle.std.proofs.shelf.Lists.{getD-take, getD-set-same, getD-set-other, le
 use Rattle.std.proofs.shelf.Signed.{ints}
 use Rattle.std.specs.declared.option.Option.the-variants.{Some, None}
 use Rattle.std.specs.shelf.Lists.{paste}
-use Rattle.terms.specs.declared.side.Side.{Side}
 use Rattle.theory.specs.Trees.{Tree, ended, branch, trees, options, size, height}
 use Rattle.theory.specs.Fair.{Fair}
 use Rattle.spreading.specs.Order.{children, none, positions, row, first}

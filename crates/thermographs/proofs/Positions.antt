@@ -1,29 +1,27 @@
 -- What the sweep finds over the options' figures is the thermograph of the tree.
 use mathlib.Core.List.{List, [], _∷_}
 use mathlib.Core.Path.{_≡_, refl, sym, ap, subst, _∙_}
-use Prim.Native.Nat.{ℕ, zero, suc, _+_, _*_, min, max, _<_, _≤_}
+use Prim.Native.Nat.{ℕ, suc, min, _<_, _≤_}
 use native.Mathlib.Omega.{arith}
 use lib.IntN.{ℤ, pos, negℤ, _+ℤ_, _-ℤ_}
 use lib.ListN.{length, getD}
-use lib.Signed.{_≤ℤ_, _<ℤ_}
 use Rattle.std.proofs.shelf.Signed.{ints, clamps}
 use Rattle.std.specs.Numbers.{maxZ}
 use Rattle.terms.specs.declared.side.Side.{Side}
 use Rattle.terms.specs.declared.side.Side.the-variants.{Left, Right}
-use Rattle.terms.specs.Sides.{other, own, pick}
-use Rattle.theory.specs.Limits.{greatestHeight, wallLimit}
-use Rattle.theory.specs.Trees.{Tree, Forest, ended, branch, one, more, trees, heightF, WithinF}
+use Rattle.terms.specs.Sides.{other, own}
+use Rattle.theory.specs.Limits.{greatestHeight}
+use Rattle.theory.specs.Trees.{Tree, Forest, branch, one, more, trees, heightF, WithinF}
 use Rattle.theory.specs.Stops.{WarmF}
 use Rattle.theory.specs.Fair.{Fair}
 use Rattle.theory.specs.Walls.{wall, scaffold, temperature, mean}
-use Rattle.theory.specs.Corners.{Ordered, rise, rising, falling, cornersOf}
+use Rattle.theory.specs.Corners.{Ordered, rising, falling, cornersOf}
 use Rattle.theory.proofs.Clauses.{open-wall}
 use Rattle.theory.proofs.Corners.{steps-draw, wall-steps, wall-corners}
 use Rattle.theory.proofs.Meet.{branch-height, one-height, more-height, temperature-is, mean-is}
 use Rattle.theory.proofs.Range.{wall-bound}
 use Rattle.spreading.specs.Order.{none}
 use Rattle.spreading.proofs.Everywhere.{Each, each-one, each-cons}
-use Rattle.walls.specs.Pieces.{greaterOf}
 use Rattle.thermographs.specs.declared.figures.Figures.{Figures}
 use Rattle.thermographs.specs.declared.sweep.Meeting.{Meeting}
 use Rattle.thermographs.specs.Figures.{blank, wall-of, run, Tells}

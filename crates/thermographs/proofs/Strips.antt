@@ -5,18 +5,19 @@ use Prim.Native.Nat.{ℕ, zero, suc, _+_, _-_, _<_, _≤_}
 use native.Mathlib.Omega.{arith}
 use lib.ListN.{length, getD, take, drop, length-append}
 use lib.Seq.{drop-cons}
+use Rattle.std.proofs.shelf.Counted.{length-map-counting, getD-map-counting}
 use Rattle.std.proofs.shelf.Edits.{take-paste}
 use Rattle.std.proofs.shelf.Lists.{append-nil, append-assoc, drop-at, take-at, take-all, take-take, length-take-le, length-take}
 use Rattle.std.proofs.shelf.Parts.{between-is}
 use Rattle.std.specs.shelf.Lists.{between, paste}
 use Rattle.terms.specs.declared.side.Side.{Side}
 use Rattle.terms.specs.declared.side.Side.the-variants.{Left, Right}
-use Rattle.theory.specs.Trees.{Tree}
+use Rattle.theory.specs.Trees.{Tree, size}
 use Rattle.spreading.proofs.Rows.{length-positions}
 use Rattle.theory.specs.Corners.{cornersOf}
 use Rattle.spreading.specs.Order.{none, positions, row}
 use Rattle.thermographs.specs.declared.figures.Figures.{Figures}
-use Rattle.thermographs.specs.Figures.{corners-of, strip, before, figures-of, figures-at, wall-of, run, Tells}
+use Rattle.thermographs.specs.Figures.{corners-of, strip, before, figures-of, figures-at, figures-rows, wall-of, run, Tells}
 use Rattle.thermographs.specs.Laws.{Figures-tell}
 use Rattle.thermographs.proofs.OpenRow.{corners-are, corners-many}
 
@@ -115,3 +116,12 @@ figures-tell t i lt front back =
     ap (λ (l : List ℕ). front ++ (l ++ back)) whole ∙ regroup front (strip (drop (suc i) xs)) (corners-of (row t i)) rest back in
     subst (λ (l : List ℕ). Tells l (figures-at t (length front) i) (row t i)) (sym all)
     (tells-new (length front + before t i) (front ++ strip (drop (suc i) xs)) (rest ++ back) (row t i) (length-append front (strip (drop (suc i) xs))))
+
+-- ---- the figures of a tree's rows, as a list and one by one
+pub length-rows : (t : Tree) (used : ℕ) → length (figures-rows t used) ≡ size t
+unfolding figures-rows
+length-rows t used = length-map-counting (figures-at t used) 0 (size t)
+
+pub getD-rows : (t : Tree) (used k : ℕ) (d : Figures) → k < size t → getD (figures-rows t used) k d ≡ figures-at t used k
+unfolding figures-rows
+getD-rows t used k d lt = getD-map-counting (figures-at t used) 0 (size t) k k d lt (omega arith)

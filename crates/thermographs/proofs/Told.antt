@@ -1,23 +1,20 @@
 -- What figures tell can be read at any tax.
 use mathlib.Core.List.{List}
-use mathlib.Core.Path.{_≡_, refl, sym, ap, subst, _∙_}
+use mathlib.Core.Path.{_≡_, sym, ap, subst, _∙_}
 use Prim.Native.Nat.{ℕ}
 use native.Mathlib.Omega.{arith}
-use lib.IntN.{ℤ, negℤ}
+use lib.IntN.{ℤ}
 use Rattle.std.proofs.shelf.Signed.{ints}
 use Rattle.terms.specs.declared.side.Side.{Side}
 use Rattle.terms.specs.declared.side.Side.the-variants.{Left, Right}
 use Rattle.terms.specs.Sides.{own}
-use Rattle.theory.specs.Trees.{Tree}
-use Rattle.theory.specs.Fair.{Fair}
 use Rattle.theory.specs.Walls.{wall}
 use Rattle.theory.specs.Corners.{Ordered, falling, cornersOf}
 use Rattle.theory.proofs.Corners.{steps-draw, wall-steps, wall-corners}
 use Rattle.theory.proofs.Range.{wall-bound}
 use Rattle.walls.specs.Pieces.{Ranged}
 use Rattle.walls.specs.Readings.{drawn}
-use Rattle.thermographs.specs.declared.figures.Figures.{Figures}
-use Rattle.thermographs.specs.Figures.{wall-of, run, Tells}
+use Rattle.thermographs.specs.Figures.{wall-of, run}
 use Rattle.thermographs.specs.Laws.{Told-is-read}
 use Rattle.thermographs.proofs.Best.{own-ranged}
 

@@ -1,17 +1,16 @@
 -- Going along a wall whose corners are ds, from one straight part to the next: what has been written is the front of ds.
 use mathlib.Core.Bool.{Bool, true, false}
-use mathlib.Core.List.{List, [], _∷_}
+use mathlib.Core.List.{List}
 use mathlib.Core.Logic.{_⊎_, inl, inr}
 use mathlib.Core.Path.{_≡_, refl, sym, ap, subst, _∙_}
 use Prim.Native.Nat.{ℕ, zero, suc, _+_, _-_, _%_, _<_, _≤_}
 use native.Mathlib.Omega.{arith}
-use lib.Dec.{ltb}
 use lib.ListN.{length, getD}
-use Rattle.std.proofs.shelf.Tests.{cases-lt, cases-eq, lt-ltb, le-ltb}
+use Rattle.std.proofs.shelf.Tests.{cases-lt, cases-eq, lt-ltb}
 use Rattle.theory.specs.Corners.{Ordered, above, step}
 use Rattle.theory.proofs.Rising.{ascends}
 use Rattle.walls.specs.Pieces.{bit}
-use Rattle.walls.specs.Turns.{differ, turns}
+use Rattle.walls.specs.Turns.{turns}
 use Rattle.walls.proofs.Straight.{above-at}
 
 -- the first n corners lie below t and the others do not; s is the slope just before t

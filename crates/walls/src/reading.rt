@@ -1,5 +1,5 @@
 ghost use mathlib.Core.Path.{_≡_};
-ghost use Prim.Native.Nat.{ℕ, _+_, _^_, _<_, _≤_};
+ghost use Prim.Native.Nat.{_+_, _^_, _<_, _≤_};
 ghost use Rattle.theory.specs.Corners.{Ordered, rising};
 ghost use Rattle.walls.specs.Pieces.{climb, Linear, Ranged, Tame};
 ghost use Rattle.walls.specs.Readings.{drawn};

@@ -1,15 +1,12 @@
 use mathlib.Core.Path.{_≡_, refl, sym, ap, subst, _∙_}
-use mathlib.Core.List.{List}
-use Prim.Native.Nat.{ℕ, _+_, _-_, _≤_}
+use Prim.Native.Nat.{ℕ, _+_}
 use native.Mathlib.Omega.{arith}
 use lib.IntN.{ℤ}
-use lib.ListN.{length, take}
 use mir.Syntax.{w16}
 use mir.Val.{toZ, ofZ}
 use Rattle.std.proofs.shelf.Signed.{ints}
-use Rattle.std.specs.declared.option.Option.the-variants.{Some, None}
+use Rattle.std.specs.declared.option.Option.the-variants.{Some}
 use Rattle.theory.specs.Trees.{Tree, ended}
-use Rattle.thermographs.specs.declared.figures.Figures.{Figures}
 use Rattle.thermographs.specs.Figures.{figures-of}
 use Rattle.thermographs.specs.Rows.{Row-into}
 use Rattle.thermographs.proofs.OpenRow.{ended-row}

@@ -1,12 +1,11 @@
-use mathlib.Core.Path.{_≡_, refl, sym, ap, subst, _∙_}
-use Prim.Native.Nat.{ℕ, suc, _+_, _-_, _<_, _≤_}
+use mathlib.Core.Path.{_≡_, ap, subst, _∙_}
+use Prim.Native.Nat.{ℕ, suc, _+_, _-_, _<_}
 use native.Mathlib.Omega.{arith}
-use lib.ListN.{length, getD, take}
-use Rattle.theory.specs.Trees.{Tree, size}
+use lib.ListN.{length}
+use Rattle.theory.specs.Trees.{size}
 use Rattle.spreading.specs.Order.{row, first}
 use Rattle.spreading.proofs.Shapes.{length-shapes}
 use Rattle.thermographs.specs.declared.figures.Figures.{Figures}
-use Rattle.thermographs.specs.Figures.{corners-of}
 use Rattle.thermographs.proofs.OpenRow.{corners-many}
 use Rattle.thermographs.proofs.Pass.{Pass, pass-none, pass-ready, pass-inside, pass-more, pass-short, pass-all}
 use Rattle.thermographs.proofs.rows.figure_rows.Needs as need

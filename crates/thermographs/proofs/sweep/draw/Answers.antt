@@ -1,10 +1,10 @@
 use mathlib.Core.Bool.{false, not}
 use mathlib.Core.List.{List}
 use mathlib.Core.Path.{_≡_, refl, sym, ap, subst, _∙_}
-use Prim.Native.Nat.{ℕ, _-_, min, _≤_, _<_}
+use Prim.Native.Nat.{ℕ, _-_, min, _≤_}
 use native.Mathlib.Omega.{arith}
 use lib.IntN.{ℤ}
-use lib.ListN.{length, getD, take}
+use lib.ListN.{getD, take}
 use Rattle.std.proofs.shelf.Lists.{take-take}
 use Rattle.walls.specs.Pieces.{Linear}
 use Rattle.thermographs.specs.Figures.{blank}

@@ -1,11 +1,9 @@
-use mathlib.Core.Path.{_≡_}
 use Prim.Native.Nat.{ℕ, _≤_}
 use native.Mathlib.Omega.{arith}
 use lib.IntN.{ℤ}
 use Rattle.std.proofs.shelf.Signed.{ints}
 use Rattle.terms.specs.declared.side.Side.the-variants.{Left, Right}
 use Rattle.theory.specs.Limits.{wallLimit}
-use Rattle.walls.specs.Pieces.{Tame}
 use Rattle.walls.proofs.Straight.{linear-at}
 use Rattle.thermographs.specs.Near.{best}
 use Rattle.thermographs.proofs.Meet.{Apart, best-tame, swept-next, met-here}

@@ -1,6 +1,4 @@
 use Prim.Native.Nat.{_-_}
-use lib.IntN.{negℤ}
-use mathlib.Core.Path.{_≡_}
 use Rattle.terms.specs.declared.side.Side.the-variants.{Left, Right}
 use Rattle.theory.specs.Limits.{wallLimit}
 use Rattle.thermographs.specs.Near.{best}

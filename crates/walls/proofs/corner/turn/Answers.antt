@@ -1,7 +1,4 @@
 use mathlib.Core.Path.{sym, _∙_}
-use mathlib.Core.Bool.{cond}
-use lib.ListN.{set}
-use native.Mathlib.Omega.{arith}
 use Rattle.std.proofs.shelf.Lists.{set-past}
 use Rattle.std.proofs.shelf.Tests.{cond-true}
 use Rattle.walls.proofs.corner.turn.Needs as need

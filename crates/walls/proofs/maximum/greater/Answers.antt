@@ -1,4 +1,3 @@
-use borrow.Author.Needs.{needs}
 use Rattle.walls.proofs.maximum.greater.Needs as need
 
 pub returns-then-not-q : need.returns-then-not-q

@@ -1,17 +1,14 @@
-use borrow.Author.Needs.{needs}
 use borrow.Author.Count.{below-more}
 use native.Mathlib.Omega.{arith}
 use native.Mathlib.Numerals.{add-one}
-use Prim.Native.Nat.{ℕ, suc, _<_, _≤_, _-_, _+_, _%_}
+use Prim.Native.Nat.{ℕ, suc, _<_, _-_, _+_, _%_}
 use mathlib.Core.Path.{_≡_, refl, ap, _∙_}
 use mathlib.Core.Bool.{Bool, true, false, not}
-use mathlib.Core.List.{_∷_}
 use lib.ListN.{getD, length}
-use lib.IntN.{pos}
 use Rattle.std.proofs.shelf.Signed.{ints}
 use Rattle.theory.specs.Corners.{rise}
 use Rattle.theory.proofs.Rising.{ascends}
-use Rattle.walls.specs.Pieces.{climb, bit}
+use Rattle.walls.specs.Pieces.{bit}
 use Rattle.walls.proofs.Straight.{reached, rise-low, piece-holds}
 use Rattle.walls.proofs.reading.piece_at.Needs as need
 
