@@ -4,3 +4,4 @@ pub mod Drafting
 pub mod Places
 pub mod Sets
 pub mod Trees
+pub mod Parting

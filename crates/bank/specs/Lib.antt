@@ -1,4 +1,5 @@
 pub mod Held
+pub mod Parts
 pub mod Drafts
 pub mod Placing
 pub mod Contents

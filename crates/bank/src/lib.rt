@@ -4,6 +4,8 @@ mod bank;
 mod columns;
 mod draft;
 mod placing;
+mod reads;
 mod seat;
+mod spans;
 
 pub use bank::Bank;
