@@ -33,7 +33,7 @@ use Rattle.thermographs.specs.declared.figures.Figures.{Figures}
 use Rattle.thermographs.proofs.Strips.{strip-more, tells-new}
 use Rattle.thermographs.proofs.Pass.{rows-fair}
 use Rattle.bank.specs.Held.{part-figures, Held}
-use Rattle.bank.specs.Parts.{part-of}
+use Rattle.bank.specs.Parts.{part-of, There}
 use Rattle.bank.specs.Diagrams.{leftOf, rightOf, Pictures, Nothing, Shows}
 use Rattle.bank.specs.declared.columns.Columns.{Columns}
 use Rattle.bank.specs.declared.diagram.Diagram.{Diagram}
@@ -50,8 +50,7 @@ strip-split (x ∷ xs) zero h = ([], strip-more (x ∷ xs) 0 h ∙ ap (λ l. str
 strip-split (x ∷ xs) (suc i) h =
     let r = strip-split xs i (le-of-suc-le-suc h) in
     let a = strip (drop (suc i) xs) in
-    let b = corners-of (getD xs i none) in
-    (
+    let b = corners-of (getD xs i none) in (
       r .0 ++ corners-of x,
       strip-more (x ∷ xs) 0 (omega arith) ∙ ap (λ l. l ++ corners-of x) (r .1) ∙ append-assoc a (b ++ r .0) (corners-of x) ∙ ap (λ l. a ++ l) (append-assoc b (r .0) (corners-of x)),
     )
@@ -76,17 +75,18 @@ at-none [] p e = omega arith
 at-none (x ∷ ts) zero e = let z : _≡_ {A = ℕ} 0 1 = cc in absurd (omega arith)
 at-none (x ∷ ts) (suc p) e = omega (arith, at-none ts p e)
 
-part-there : {A : Type 0} (entries : Tree → List A) (ts : List Tree) (p : ℕ) → p < length ts → part-of entries ts p ≡ entries (getD ts p none)
+pub at-there : (ts : List Tree) (p : ℕ) → p < length ts → at ts p ≡ Some (getD ts p none)
+at-there [] p h = absurd (not-suc-le-zero h)
+at-there (x ∷ ts) zero h = refl
+at-there (x ∷ ts) (suc p) h = at-there ts p (le-of-suc-le-suc h)
+
+pub part-there : {A : Type 0} (entries : Tree → List A) (ts : List Tree) (p : ℕ) → p < length ts → part-of entries ts p ≡ entries (getD ts p none)
 part-there entries ts p lt = cond-true (ltb p (length ts)) (entries (getD ts p none)) [] (lt-ltb p (length ts) lt)
 
 part-gone : {A : Type 0} (entries : Tree → List A) (ts : List Tree) (p : ℕ) → length ts ≤ p → part-of entries ts p ≡ []
 part-gone entries ts p ge = cond-false (ltb p (length ts)) (entries (getD ts p none)) [] (le-ltb p (length ts) ge)
 
 -- a row that has figures is one of its part's
-pub record There (ts : List Tree) (p i : ℕ) : Type 0 where
-  pub part : p < length ts
-  pub line : i < size (getD ts p none)
-
 pub is-there : (ts : List Tree) (p i : ℕ) → i < length (part-of part-figures ts p) → There ts p i
 is-there ts p i lt =
     elim (cases-lt p (length ts)) [

@@ -1,5 +1,6 @@
 ghost use mathlib.Core.Path.{_≡_};
 ghost use denote.Ref.{now};
+ghost use Rattle.terms.specs.Sides.{pick};
 ghost use Rattle.theory.specs.Corners.{Ordered, rising, falling};
 ghost use Rattle.walls.specs.Pieces.{Tame};
 use terms::Side;
@@ -47,18 +48,24 @@ impl<'a> Diagram<'a> {
         }
     }
 
-    // The corners of the left wall.
-    pub fn left_corners(&self) -> &[u32]
-        ensures { λ r. ⌜ now r ≡ now (now (self .entry) .left) ⌝ }
+    // The corners of the side's wall.
+    pub fn corners(&self, side: Side) -> &[u32]
+        ensures { λ r. ⌜ now r ≡ pick side (now (now (self .entry) .left)) (now (now (self .entry) .right)) ⌝ }
     {
-        self.left
+        match side {
+            Side::Left => self.left,
+            Side::Right => self.right,
+        }
     }
 
-    // The corners of the right wall.
-    pub fn right_corners(&self) -> &[u32]
-        ensures { λ r. ⌜ now r ≡ now (now (self .entry) .right) ⌝ }
+    // The value of the side's wall at 0.
+    pub fn start(&self, side: Side) -> i32
+        ensures { λ r. ⌜ r ≡ pick side (now (self .entry) .«left_start») (now (self .entry) .«right_start») ⌝ }
     {
-        self.right
+        match side {
+            Side::Left => self.left_start,
+            Side::Right => self.right_start,
+        }
     }
 
     pub fn mean(&self) -> i32

@@ -9,6 +9,7 @@ mod reads;
 mod seat;
 mod show;
 mod spans;
+mod wall;
 
 pub use bank::Bank;
 pub use diagram::Diagram;
