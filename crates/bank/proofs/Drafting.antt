@@ -30,13 +30,13 @@ pub drafted : (t : Tree) (n m : ℕ) (shapes after : List Shape) (figures figure
 drafted t n m shapes after figures figures′ corners corners′ l low warm s f =
     let ends : m ≡ length (strip-of t) = omega (arith, f .ends) in
     record {
-  fits = lacks-nothing (length shapes) (length corners) t (omega (arith, s .0, s .1)) low warm (omega (arith, f .ends, f .room));
-  rows = s .0;
-  turns = ends;
-  room = s .1;
-  space = f .room;
-  seatable = seatable-of t l low warm;
-  shaped = s .2 ∙ ap (λ k. shapes-of t ++ drop k shapes) (s .0 ∙ sym (length-shapes t));
-  figured = f .rows ∙ ap (λ k. part-figures t ++ drop k figures) (sym (length-figures t));
-  drawn = f .written ∙ ap (λ k. strip-of t ++ drop k corners) ends;
-}
+      fits = lacks-nothing (length shapes) (length corners) t (omega (arith, s .0, s .1)) low warm (omega (arith, f .ends, f .room));
+      rows = s .0;
+      turns = ends;
+      room = s .1;
+      space = f .room;
+      seatable = seatable-of t l low warm;
+      shaped = s .2 ∙ ap (λ k. shapes-of t ++ drop k shapes) (s .0 ∙ sym (length-shapes t));
+      figured = f .rows ∙ ap (λ k. part-figures t ++ drop k figures) (sym (length-figures t));
+      drawn = f .written ∙ ap (λ k. strip-of t ++ drop k corners) ends;
+    }

@@ -5,3 +5,4 @@ pub mod Places
 pub mod Sets
 pub mod Trees
 pub mod Parting
+pub mod Showing

@@ -14,7 +14,7 @@ use Rattle.theory.specs.Trees.{Tree}
 use Rattle.spreading.specs.Order.{sizes}
 use Rattle.encoding.proofs.Contents.{content, content-is, lists-set}
 use Rattle.encoding.proofs.Holding.{held-used}
-use Rattle.stories.specs.Seatings.{cause, cornerCounts}
+use Rattle.stories.specs.Seatings.{cause, cornerCounts, seat}
 use Rattle.bank.specs.Held.{Held, Filled}
 use Rattle.bank.specs.Placing.{cause-by, Judged, Placed}
 use Rattle.bank.specs.Contents.{held-once, trees}
@@ -64,3 +64,12 @@ seated-by-trees b b′ o (Err r) j h = (
   one-bank b′ b (∥∥₁-elim (b .filled) (columns-set (b′ .columns) (b .columns)) (λ p. h (p .0) (p .1))),
 )
 seated-by-trees b b′ o (Ok k) j h = (cause-trees b o ∙ j .0, j .1 ∙ parts-trees b, gains-one b b′ o k j h)
+
+-- the trees held after a seating are those that the story of the seatings tells
+pub seat-trees : (b b′ : Bank) (o : Option Tree) (r : Result ℕ Refusal) → Seated b o r b′ → trees b′ ≡ seat (trees b) o
+seat-trees b b′ None (Err r) h = ap trees (h .1)
+seat-trees b b′ (Some t) (Err r) h =
+    ap trees (h .1) ∙ sym (ap (λ (q : Option Refusal). elim q as (λ _. List Tree) [ None ↦ trees b ++ (t ∷ []) | Some n ↦ trees b ]) (h .0))
+seat-trees b b′ None (Ok k) h = absurd (h .2)
+seat-trees b b′ (Some t) (Ok k) h =
+    h .2 ∙ sym (ap (λ (q : Option Refusal). elim q as (λ _. List Tree) [ None ↦ trees b ++ (t ∷ []) | Some n ↦ trees b ]) (h .0))

@@ -4,3 +4,4 @@ pub mod Drafts
 pub mod Placing
 pub mod Contents
 pub mod Seats
+pub mod Diagrams

@@ -2,10 +2,14 @@
 
 mod bank;
 mod columns;
+mod diagram;
 mod draft;
 mod placing;
 mod reads;
 mod seat;
+mod show;
 mod spans;
+mod wall;
 
 pub use bank::Bank;
+pub use diagram::Diagram;
