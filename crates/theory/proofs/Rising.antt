@@ -44,8 +44,8 @@ above-suc p (c ∷ cs) r t =
       | inl e ↦
           let a : ltb t c ≡ true = lt-ltb t c (omega arith) in
           let b : ltb (suc t) c ≡ false = le-ltb (suc t) c (omega arith) in
-          let p1 : above cs t ≡ length cs = above-all c cs (r .1) t (omega arith) in
-          let p2 : above cs (suc t) ≡ length cs = above-all c cs (r .1) (suc t) (omega arith) in
+          let now-all : above cs t ≡ length cs = above-all c cs (r .1) t (omega arith) in
+          let then-all : above cs (suc t) ≡ length cs = above-all c cs (r .1) (suc t) (omega arith) in
           rw (a, b) (inr (omega arith, inl e))
       | inr o ↦ elim o [
         | inl l ↦
