@@ -3,13 +3,17 @@ use mathlib.Core.Path.{_≡_, refl, ap, sym, _∙_, subst}
 use mathlib.Core.List.{List, [], _∷_, _++_}
 use Prim.Native.Nat.{ℕ, _+_, _-_, _≤_, _<_}
 use native.Mathlib.Omega.{arith}
-use lib.ListN.{length, set, take, drop, replicate}
+use lib.ListN.{length, getD, set, take, drop, replicate, length-replicate}
+use mathlib.Core.Logic.{inl, inr}
+use native.Mathlib.Nat.{not-suc-le-zero}
+use Rattle.std.specs.Joined.{joined}
+use Rattle.std.proofs.shelf.Tests.{cases-lt}
 use borrow.Rule.Slice.PartMut.{putMid}
 use Rattle.std.specs.declared.option.Option.{Option}
 use Rattle.std.specs.declared.option.Option.the-variants.{Some, None}
 use Rattle.std.specs.declared.result.Result.{Result}
 use Rattle.std.specs.declared.result.Result.the-variants.{Ok, Err}
-use Rattle.std.proofs.shelf.Lists.{append-nil, drop-all, take-rest, length-drop}
+use Rattle.std.proofs.shelf.Lists.{append-nil, drop-all, take-rest, length-drop, length-take-le, getD-append-left, getD-append-right, getD-replicate, getD-drop, getD-past}
 use Rattle.terms.specs.declared.fault.Refusal.{Refusal}
 use Rattle.theory.specs.Trees.{Tree, size}
 use Rattle.spreading.specs.Shapes.{rowLimit, shapes-of, blank as blank-shape}
@@ -18,7 +22,7 @@ use Rattle.spreading.proofs.Shapes.{length-shapes}
 use Rattle.thermographs.specs.Figures.{cornerLimit, strip-of, blank}
 use Rattle.thermographs.specs.declared.figures.Figures.{Figures}
 use Rattle.encoding.specs.Columns.{partLimit, Column, Holds}
-use Rattle.encoding.proofs.Columns.{put, column-more, column-wiped}
+use Rattle.encoding.proofs.Columns.{put, column-none, column-more, column-wiped}
 use Rattle.encoding.proofs.Holding.{held-more}
 use Rattle.bank.specs.Held.{part-figures, Held, Within}
 use Rattle.bank.specs.Drafts.{lacks, onto, Drafted, Fill-into}
@@ -163,3 +167,49 @@ within-after c t x shapes figures corners w f few q = (
   omega (arith, w .1, q .room, length-free (c .shapes) rowLimit (c .rows) (f .shapes)),
   omega (arith, w .2, q .space, length-free (c .corners) cornerLimit (c .turns) (f .corners)),
 )
+
+-- ---- emptying
+getD-cleared : {A : Type 0} (entries : Tree → List A) (d : A) (xs ys : List A) (starts : List ℕ) (used m : ℕ) (ts : List Tree) → m ≡ used → used ≤ length xs → Column entries d xs starts used ts
+    → ys ≡ replicate (length (take m (drop 0 xs))) d → (k : ℕ) → getD (putMid 0 m xs ys) k d ≡ d
+getD-cleared entries d xs ys starts used m ts same room h e k =
+    let n = length (take m (drop 0 xs)) in
+    let many : n ≡ m = length-take-le m xs (omega arith) in
+    let wide : length (replicate n d) ≡ n = length-replicate n d in
+    ap (λ l. getD (l ++ drop m xs) k d) e
+    ∙ elim (cases-lt k n) [
+      | inl lt ↦ getD-append-left (replicate n d) (drop m xs) d k (omega arith) ∙ getD-replicate n k d d lt
+      | inr ge ↦
+          getD-append-right (replicate n d) (drop m xs) n k d wide ge ∙ getD-drop m xs (k - n) d ∙ h .written (m + (k - n))
+          ∙ getD-past (joined entries ts) (m + (k - n)) d (omega (arith, h .filled))
+    ]
+
+cleared : {A : Type 0} (entries : Tree → List A) (d : A) (xs ys : List A) (starts : List ℕ) (used : ℕ) (ts : List Tree) → used ≤ length xs → Column entries d xs starts used ts
+    → ys ≡ replicate (length (take (used - 0) (drop 0 xs))) d → Column entries d (putMid 0 (used - 0) xs ys) (replicate partLimit 0) 0 []
+cleared entries d xs ys starts used ts room h e = record {
+  filled = refl;
+  written = getD-cleared entries d xs ys starts used (used - 0) ts (omega arith) room h e;
+  begun = column-none entries d 0 partLimit .begun;
+}
+
+pub held-cleared : (c : Columns) (ts : List Tree) (shapes : List Shape) (figures : List Figures) (corners : List ℕ) → Within c → Full c → Held c ts
+    → shapes ≡ replicate (length (take (c .rows - 0) (drop 0 (c .shapes)))) blank-shape → figures ≡ replicate (length (take (c .rows - 0) (drop 0 (c .figures)))) blank
+    → corners ≡ replicate (length (take (c .turns - 0) (drop 0 (c .corners)))) 0
+    → Held (record {
+      shapes = putMid 0 (c .rows - 0) (c .shapes) shapes;
+      figures = putMid 0 (c .rows - 0) (c .figures) figures;
+      corners = putMid 0 (c .turns - 0) (c .corners) corners;
+      «row_starts» = replicate partLimit 0;
+      «corner_starts» = replicate partLimit 0;
+      parts = 0;
+      rows = 0;
+      turns = 0;
+    }) []
+held-cleared c ts shapes figures corners w f h a b d = record {
+  rows = record {
+    many = refl;
+    rows = cleared shapes-of blank-shape (c .shapes) shapes (c .«row_starts») (c .rows) ts (omega (arith, w .1, f .shapes)) (h .rows .rows) a;
+    seatable = λ p lt. absurd (not-suc-le-zero lt);
+  };
+  figures = cleared part-figures blank (c .figures) figures (c .«row_starts») (c .rows) ts (omega (arith, w .1, f .figures)) (h .figures) b;
+  corners = cleared strip-of 0 (c .corners) corners (c .«corner_starts») (c .turns) ts (omega (arith, w .2, f .corners)) (h .corners) d;
+}

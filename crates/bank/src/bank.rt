@@ -30,6 +30,12 @@ impl Bank {
         }
     }
 
+    pub(crate) fn wipe(&mut self)
+        ensures { λ _. ⌜ ((ts : List Tree) → Held (now (self .entry) .columns) ts → Held (now (self .exit) .columns) []) ⌝ }
+    {
+        self.columns.clear();
+    }
+
     pub(crate) fn columns(&self) -> &Columns
         ensures { λ r. ⌜ now r ≡ now (self .entry) .columns ⌝ }
     {

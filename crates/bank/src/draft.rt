@@ -1,12 +1,12 @@
 ghost use mathlib.Core.Bool.{true};
 ghost use mathlib.Core.Path.{_≡_};
 ghost use Prim.Native.Nat.{_≤_};
-ghost use lib.ListN.{length};
+ghost use lib.ListN.{length, replicate};
 ghost use Rattle.std.specs.declared.option.Option.the-variants.{Some};
 ghost use Rattle.theory.specs.Trees.{Tree};
 ghost use Rattle.rules.specs.Meaning.{known-in};
-ghost use Rattle.spreading.specs.Shapes.{rowLimit};
-ghost use Rattle.thermographs.specs.Figures.{cornerLimit};
+ghost use Rattle.spreading.specs.Shapes.{rowLimit, blank as blank-shape};
+ghost use Rattle.thermographs.specs.Figures.{cornerLimit, blank};
 ghost use Rattle.bank.specs.Drafts.{Draft-into, Fill-into};
 use measures::any_cold;
 use measures::too_high;
@@ -25,6 +25,17 @@ use thermographs::figure_rows;
 pub struct Extent {
     pub rows: usize,
     pub turns: usize,
+}
+
+// Makes rows and corners blank.
+pub fn erase(shapes: &mut [Shape], figures: &mut [Figures], corners: &mut [u32])
+    ensures shapes { λ _. ⌜ now (shapes .exit) ≡ replicate (length (now (shapes .entry))) blank-shape ⌝ }
+    ensures figures { λ _. ⌜ now (figures .exit) ≡ replicate (length (now (figures .entry))) blank ⌝ }
+    ensures corners { λ _. ⌜ now (corners .exit) ≡ replicate (length (now (corners .entry))) 0 ⌝ }
+{
+    wipe(shapes);
+    figures.fill(BLANK);
+    corners.fill(0);
 }
 
 // Writes the part of a known code into the free rows and corners, or says why it has no place
@@ -73,9 +84,7 @@ pub fn fill<R: RuleSet>(
     match draft(rules, code, shapes, figures, corners) {
         Ok(extent) => Ok(extent),
         Err(refusal) => {
-            wipe(shapes);
-            figures.fill(BLANK);
-            corners.fill(0);
+            erase(shapes, figures, corners);
             Err(refusal)
         }
     }

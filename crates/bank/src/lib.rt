@@ -9,6 +9,8 @@ mod reads;
 mod seat;
 mod show;
 mod spans;
+#[cfg(test)]
+mod tests;
 mod wall;
 
 pub use bank::Bank;

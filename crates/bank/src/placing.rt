@@ -4,6 +4,7 @@ ghost use Rattle.theory.specs.Trees.{Tree};
 ghost use Rattle.bank.specs.Held.{Held, Within};
 ghost use Rattle.bank.specs.Placing.{Judged, Placed};
 use crate::columns::Columns;
+use crate::draft::erase;
 use crate::draft::fill;
 use encoding::PART_LIMIT;
 use rules::RuleSet;
@@ -29,6 +30,26 @@ impl Columns {
             rows: 0,
             turns: 0,
         }
+    }
+
+    // Makes all that is used blank again.
+    pub fn clear(&mut self)
+        requires { ⌜ Within (now self) ⌝ }
+        ensures within { λ _. ⌜ Within (now (self .exit)) ⌝ }
+        ensures held { λ _. ⌜ ((ts : List Tree) → Held (now (self .entry)) ts → Held (now (self .exit)) []) ⌝ }
+    {
+        let rows = self.rows as usize;
+        let turns = self.turns as usize;
+        erase(
+            &mut self.shapes[0..rows],
+            &mut self.figures[0..rows],
+            &mut self.corners[0..turns],
+        );
+        self.row_starts = [0; PART_LIMIT];
+        self.corner_starts = [0; PART_LIMIT];
+        self.parts = 0;
+        self.rows = 0;
+        self.turns = 0;
     }
 
     // The code's tree becomes a part behind the others, and its number is answered; or it is said why

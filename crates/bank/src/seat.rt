@@ -19,7 +19,7 @@ impl Bank {
     pub fn clear(&mut self)
         ensures { λ _. ⌜ trees (now (self .exit)) ≡ [] ⌝ }
     {
-        *self = Bank::empty();
+        self.wipe();
     }
 
     // How many parts there are.
