@@ -1,6 +1,8 @@
 // Reads a job from standard input and tells what it found: for a sound text how many lines, parts
 // and moves it has, else the fault. Status 0, or 1 with a fault.
 
+#![tactic(auto)]
+
 ghost use Rattle.std.specs.Prelude.{◌≤◌, length, IfOk};
 
 use anyhow::anyhow;

@@ -1,5 +1,7 @@
 // The bank: the thermographs of all positions of up to eight trees, in fixed memory.
 
+#![tactic(auto)]
+
 mod bank;
 mod columns;
 mod diagram;

@@ -1,5 +1,7 @@
 // What a bank's columns are for the trees that it holds.
 
+#![tactic(auto)]
+
 mod laws;
 
 pub use laws::rows_tell_trees;

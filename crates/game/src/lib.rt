@@ -1,5 +1,7 @@
 // A game on a bank: our side plays the parts that are seated there, with advice, floor and bracket.
 
+#![tactic(auto)]
+
 mod answers;
 mod best;
 mod game;

@@ -1,5 +1,7 @@
 // A whole job, from its bytes.
 
+#![tactic(auto)]
+
 mod account;
 mod check;
 mod counts;

@@ -1,5 +1,7 @@
 // The lines of a job: their keys, their values and their numbers.
 
+#![tactic(auto)]
+
 mod cuts;
 mod key;
 mod read;

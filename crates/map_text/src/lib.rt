@@ -1,5 +1,7 @@
 // The map of a Snort part: its two lines, read into the rule set.
 
+#![tactic(auto)]
+
 ghost use Rattle.map_text.specs.Laws.{MapExact};
 
 mod edges;

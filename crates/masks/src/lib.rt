@@ -1,5 +1,7 @@
 // Sets of small numbers as the bits of a mask.
 
+#![tactic(auto)]
+
 ghost use Rattle.std.specs.Prelude.{◌≡◌, ◌<◌};
 ghost use Rattle.theory.specs.Trees.{at as place_in};
 ghost use Rattle.masks.specs.Masks.{has as hasBit, members};

@@ -1,5 +1,7 @@
 // What is asked of a spread tree: that it is not too high, and that none of its positions is cold.
 
+#![tactic(auto)]
+
 mod heights;
 mod stops;
 

@@ -1,5 +1,7 @@
 // Numbers as texts: which bytes are a number, and which one.
 
+#![tactic(auto)]
+
 ghost use Rattle.std.specs.Prelude.{◌≡◌, ℕ, ◌+◌, ◌^◌, ◌<◌, ◌≤◌, length};
 ghost use Rattle.numbers.specs.Laws.{NaturalExact, IntegerExact, Ordered};
 ghost use Rattle.numbers.specs.Numbers.{natural, integer, capped, upto, within, below_zero, above_zero, less_text, lower as first-lower, judged};

@@ -1,6 +1,8 @@
 // The plain record of a play. What it needs to know of the parts comes as figures; the contracts say
 // what those are of the parts' trees, and equate every answer with the rules of the game.
 
+#![tactic(auto)]
+
 mod answers;
 mod laws;
 mod leads;

@@ -1,5 +1,7 @@
 // The run of a whole job, from its bytes to the sheet.
 
+#![tactic(auto)]
+
 mod figures;
 mod moves;
 mod parts;

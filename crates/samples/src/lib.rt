@@ -1,5 +1,7 @@
 // Jobs, and what is told of them or which fault they meet.
 
+#![tactic(auto)]
+
 #[cfg(test)]
 mod tests {
     use job::check_text;

@@ -1,5 +1,7 @@
 // The score sheet, as text.
 
+#![tactic(auto)]
+
 mod laws;
 mod page;
 #[cfg(test)]

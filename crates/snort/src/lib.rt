@@ -1,5 +1,7 @@
 // Snort on a map of up to 12 points.
 
+#![tactic(auto)]
+
 mod colours;
 mod map;
 

@@ -1,5 +1,7 @@
 // A tree's positions in breadth-first order, spread into rows.
 
+#![tactic(auto)]
+
 mod breadth;
 mod shape;
 

@@ -1,5 +1,7 @@
 // The rules of the game, stories, and what the answers promise over every story.
 
+#![tactic(auto)]
+
 mod laws;
 mod turn;
 

@@ -1,5 +1,7 @@
 // The words that every crate shares: the two sides, and the refusals with their numbers and layers.
 
+#![tactic(auto)]
+
 mod fault;
 mod side;
 

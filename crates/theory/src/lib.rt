@@ -1,5 +1,7 @@
 // Definitions and laws of hot sums.
 
+#![tactic(auto)]
+
 mod laws;
 mod limits;
 

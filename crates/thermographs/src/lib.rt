@@ -1,5 +1,7 @@
 // Thermographs of the rows of a tree, corner by corner, from the last row to the first.
 
+#![tactic(auto)]
+
 mod figures;
 mod near;
 mod reading;

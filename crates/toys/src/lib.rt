@@ -1,5 +1,7 @@
 // Small rule sets to try the bank's passes on.
 
+#![tactic(auto)]
+
 mod samples;
 #[cfg(test)]
 mod tests;

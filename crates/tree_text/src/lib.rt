@@ -1,5 +1,7 @@
 // The tree parts of a job, read into lent rows and picks.
 
+#![tactic(auto)]
+
 mod links;
 mod list_line;
 mod place;

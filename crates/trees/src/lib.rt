@@ -1,5 +1,7 @@
 // Trees of the user's own, written down in two lent buffers.
 
+#![tactic(auto)]
+
 mod lent;
 mod row;
 

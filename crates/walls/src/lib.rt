@@ -1,6 +1,8 @@
 // Walls by their linear pieces: reading them, the greater of two, where two scaffolds meet, and the
 // corners that are written on the way.
 
+#![tactic(auto)]
+
 mod corner;
 mod maximum;
 mod piece;
