@@ -13,14 +13,14 @@ returns-then-part-parts c =
 pub bounds-rows-part : goal.bounds-rows-part
 bounds-rows-part c = omega (arith, few_parts c.args.bank.now)
 
-pub returns-in-err-row : goal.returns-in-err-row
-returns-in-err-row c =
+pub returns-in_err-row : goal.returns-in_err-row
+returns-in_err-row c =
     let ts = trees c.args.bank.now in
     let few = few_parts c.args.bank.now in
     let here : c.args.part < length ts = omega (arith, c.parts.ensures) in
     let wide : length ts ≤ length c.args.rows.now = omega arith in
-    let p = err_from_is_err_and c.from-residual.result c.from-residual.ensures.1 in
-    rw (p.1, p.2) (record { leads = find_there ts c.args.side c.args.rows.now c.args.part c.args.option wide here ∙ c.in-err-row.ensures; row = tt })
+    let p = err_from_is_err_and c.from_residual.result c.from_residual.ensures.1 in
+    rw (p.1, p.2) (record { leads = find_there ts c.args.side c.args.rows.now c.args.part c.args.option wide here ∙ c.in_err-row.ensures; row = tt })
 
 pub returns : goal.returns
 returns c =
@@ -30,7 +30,7 @@ returns c =
     let wide : length ts ≤ length c.args.rows.now = omega arith in
     let e = c.land.ensures in
     record {
-      leads = lands ts c.args.side c.args.rows.now c.args.part c.args.option c.in-ok-row.row c.land.result wide here c.in-ok-row.ensures
+      leads = lands ts c.args.side c.args.rows.now c.args.part c.args.option c.in_ok-row.row c.land.result wide here c.in_ok-row.ensures
           e.place.0 e.place.1 e.heat e.hottest;
-      row = there_as ts c.args.part c.in-ok-row.row _ _ e.place.0 e.place.1 (record { part = here; line = c.in-ok-row.ensures.0 });
+      row = there_as ts c.args.part c.in_ok-row.row _ _ e.place.0 e.place.1 (record { part = here; line = c.in_ok-row.ensures.0 });
     }

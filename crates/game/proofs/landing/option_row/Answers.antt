@@ -6,22 +6,22 @@ use Rattle.game.proofs.landing.option_row.Goals as goal
 
 pub returns-in-default : goal.returns-in-default
 returns-in-default c =
-    ended_row (get_or (trees c.args.bank.now) c.args.part none) c.args.row c.args.side c.args.option c.shape-at-shape.result c.shape-at-shape.ensures c.in-default.not-Open
+    ended_row (get_or (trees c.args.bank.now) c.args.part none) c.args.row c.args.side c.args.option c.shape_at-shape.result c.shape_at-shape.ensures c.in-default.not-Open
 
 pub returns-then-option-count : goal.returns-then-option-count
 returns-then-option-count c =
-    no_option (get_or (trees c.args.bank.now) c.args.part none) c.args.row c.args.side c.args.option c.shape-at-shape.result c.shape-at-shape.ensures
+    no_option (get_or (trees c.args.bank.now) c.args.part none) c.args.row c.args.side c.args.option c.shape_at-shape.result c.shape_at-shape.ensures
     c.count.result c.in-Open.is c.count.ensures c.if-option-count.true
 
-pub overflow-cast-result-2 : goal.overflow-cast-result-2
-overflow-cast-result-2 c =
+pub overflow_cast-result-2 : goal.overflow_cast-result-2
+overflow_cast-result-2 c =
     let t = get_or (trees c.args.bank.now) c.args.part none in
-    let there = option_at t c.args.row c.args.side c.args.option c.shape-at-shape.result c.shape-at-shape.ensures
+    let there = option_at t c.args.row c.args.side c.args.option c.shape_at-shape.result c.shape_at-shape.ensures
     c.count.result c.start.result c.requires.line c.in-Open.is c.count.ensures c.if-option-count.false c.start.ensures in
     omega (arith, there.0, few_rows c.args.bank.now c.args.part c.requires.part)
 
 pub returns : goal.returns
 returns c =
     let t = get_or (trees c.args.bank.now) c.args.part none in
-    option_at t c.args.row c.args.side c.args.option c.shape-at-shape.result c.shape-at-shape.ensures
+    option_at t c.args.row c.args.side c.args.option c.shape_at-shape.result c.shape_at-shape.ensures
     c.count.result c.start.result c.requires.line c.in-Open.is c.count.ensures c.if-option-count.false c.start.ensures

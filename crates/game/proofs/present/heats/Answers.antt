@@ -21,7 +21,7 @@ loop-part-preserved c =
     let few = few_parts c.args.bank.now in
     let xs = c.loop-part.heats in
     let i = c.loop-part.part in
-    (length-set xs i _ ∙ c.loop-part.invariant.0, filled_more (λ k. heat_of (position ts k (get_or c.args.rows.now k 0))) xs i _ None (omega (arith, c.loop-part.invariant.0)) c.heat-at.ensures c.loop-part.invariant.1)
+    (length-set xs i _ ∙ c.loop-part.invariant.0, filled_more (λ k. heat_of (position ts k (get_or c.args.rows.now k 0))) xs i _ None (omega (arith, c.loop-part.invariant.0)) c.heat_at.ensures c.loop-part.invariant.1)
 
 pub returns : goal.returns
 returns c =

@@ -5,11 +5,11 @@ use Rattle.play.specs.Standing.{present}
 use Rattle.game.proofs.Positions.{few_parts}
 use Rattle.game.proofs.present.hottest_part.Goals as goal
 
-pub slice-bounds-heats-end : goal.slice-bounds-heats-end
-slice-bounds-heats-end c = omega (arith, few_parts c.args.bank.now)
+pub slice_bounds-heats-end : goal.slice_bounds-heats-end
+slice_bounds-heats-end c = omega (arith, few_parts c.args.bank.now)
 
-pub slice-bounds-hottest-end : goal.slice-bounds-hottest-end
-slice-bounds-hottest-end c = omega (arith, few_parts c.args.bank.now, length-take c.parts.result c.heats-heats.result)
+pub slice_bounds-hottest-end : goal.slice_bounds-hottest-end
+slice_bounds-hottest-end c = omega (arith, few_parts c.args.bank.now, length-take c.parts.result c.heats-heats.result)
 
 pub returns : goal.returns
 returns c =

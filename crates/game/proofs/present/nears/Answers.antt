@@ -22,8 +22,8 @@ loop-part-preserved c =
     let few = few_parts c.args.bank.now in
     let xs = c.loop-part.nears in
     let i = c.loop-part.part in
-    let v = to_z w32 (of_z w32 c.near-at.result) in
-    let e : v ≡ near c.args.side c.args.t (position ts i (get_or c.args.rows.now i 0)) = omega (arith, ints, c.near-at.ensures) in
+    let v = to_z w32 (of_z w32 c.near_at.result) in
+    let e : v ≡ near c.args.side c.args.t (position ts i (get_or c.args.rows.now i 0)) = omega (arith, ints, c.near_at.ensures) in
     (length-set xs i _ ∙ c.loop-part.invariant.0, filled_more (λ k. near c.args.side c.args.t (position ts k (get_or c.args.rows.now k 0))) xs i _ (pos 0) (omega (arith, c.loop-part.invariant.0)) (e) c.loop-part.invariant.1)
 
 pub returns : goal.returns

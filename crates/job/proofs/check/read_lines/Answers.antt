@@ -5,25 +5,25 @@ use Rattle.lines.specs.Seen.{seen}
 use Rattle.job.proofs.Tellings.{side_stops, first_stops, parts_stop, moves_stop, all_read}
 use Rattle.job.proofs.check.read_lines.Goals as goal
 
-pub returns-in-err-read-side : goal.returns-in-err-read-side
-returns-in-err-read-side c =
-    let p = err_from_is_err_and c.from-residual.result c.from-residual.ensures.1 in
-    rw (p.1, p.2) (side_stops (length c.args.rows.now) (min (length c.args.picks.now) pick_limit) (seen c.args.reader.now) _ c.in-err-read-side.ensures)
+pub returns-in_err-read_side : goal.returns-in_err-read_side
+returns-in_err-read_side c =
+    let p = err_from_is_err_and c.from_residual.result c.from_residual.ensures.1 in
+    rw (p.1, p.2) (side_stops (length c.args.rows.now) (min (length c.args.picks.now) pick_limit) (seen c.args.reader.now) _ c.in_err-read_side.ensures)
 
-pub returns-in-err-read-first : goal.returns-in-err-read-first
-returns-in-err-read-first c =
-    let p = err_from_is_err_and c.from-residual-in-err-read-first.result c.from-residual-in-err-read-first.ensures.1 in
-    rw (p.1, p.2) (first_stops (length c.args.rows.now) (min (length c.args.picks.now) pick_limit) (seen c.args.reader.now) _ _ _ c.in-ok-read-side.ensures c.in-err-read-first.ensures)
+pub returns-in_err-read_first : goal.returns-in_err-read_first
+returns-in_err-read_first c =
+    let p = err_from_is_err_and c.from_residual-in_err-read_first.result c.from_residual-in_err-read_first.ensures.1 in
+    rw (p.1, p.2) (first_stops (length c.args.rows.now) (min (length c.args.picks.now) pick_limit) (seen c.args.reader.now) _ _ _ c.in_ok-read_side.ensures c.in_err-read_first.ensures)
 
-pub returns-in-err-parts : goal.returns-in-err-parts
-returns-in-err-parts c =
-    let p = err_from_is_err_and c.from-residual-in-err-parts.result c.from-residual-in-err-parts.ensures.1 in
-    rw (p.1, p.2) (parts_stop (length c.args.rows.now) (min (length c.args.picks.now) pick_limit) (seen c.args.reader.now) _ _ _ _ _ c.in-ok-read-side.ensures c.in-ok-read-first.ensures c.in-err-parts.ensures)
+pub returns-in_err-parts : goal.returns-in_err-parts
+returns-in_err-parts c =
+    let p = err_from_is_err_and c.from_residual-in_err-parts.result c.from_residual-in_err-parts.ensures.1 in
+    rw (p.1, p.2) (parts_stop (length c.args.rows.now) (min (length c.args.picks.now) pick_limit) (seen c.args.reader.now) _ _ _ _ _ c.in_ok-read_side.ensures c.in_ok-read_first.ensures c.in_err-parts.ensures)
 
-pub returns-in-err-moves : goal.returns-in-err-moves
-returns-in-err-moves c =
-    let p = err_from_is_err_and c.from-residual-in-err-moves.result c.from-residual-in-err-moves.ensures.1 in
-    rw (p.1, p.2) (moves_stop (length c.args.rows.now) (min (length c.args.picks.now) pick_limit) (seen c.args.reader.now) _ _ _ _ _ _ _ c.in-ok-read-side.ensures c.in-ok-read-first.ensures c.in-ok-parts.ensures c.in-err-moves.ensures)
+pub returns-in_err-moves : goal.returns-in_err-moves
+returns-in_err-moves c =
+    let p = err_from_is_err_and c.from_residual-in_err-moves.result c.from_residual-in_err-moves.ensures.1 in
+    rw (p.1, p.2) (moves_stop (length c.args.rows.now) (min (length c.args.picks.now) pick_limit) (seen c.args.reader.now) _ _ _ _ _ _ _ c.in_ok-read_side.ensures c.in_ok-read_first.ensures c.in_ok-parts.ensures c.in_err-moves.ensures)
 
 pub returns : goal.returns
-returns c = all_read (length c.args.rows.now) (min (length c.args.picks.now) pick_limit) (seen c.args.reader.now) _ _ _ _ _ _ _ _ c.in-ok-read-side.ensures c.in-ok-read-first.ensures c.in-ok-parts.ensures c.in-ok-moves.ensures
+returns c = all_read (length c.args.rows.now) (min (length c.args.picks.now) pick_limit) (seen c.args.reader.now) _ _ _ _ _ _ _ _ c.in_ok-read_side.ensures c.in_ok-read_first.ensures c.in_ok-parts.ensures c.in_ok-moves.ensures

@@ -8,18 +8,18 @@ use Rattle.job.specs.Reads.{move_line, moves_lines}
 use Rattle.job.proofs.Loops.{count_stops, count_breaks, count_all}
 use Rattle.job.proofs.moves.count_moves.Goals as goal
 
-pub returns-in-err-n : goal.returns-in-err-n
+pub returns-in_err-n : goal.returns-in_err-n
 unfolding moves_lines
-returns-in-err-n c =
-    let p = err_from_is_err_and c.from-residual.result c.from-residual.ensures.1 in
-    rw (p.1, p.2) (count_stops (entry key.Moves (form (upto move_limit))) move_line (seen c.args.reader.now) _ c.in-err-n.ensures)
+returns-in_err-n c =
+    let p = err_from_is_err_and c.from_residual.result c.from_residual.ensures.1 in
+    rw (p.1, p.2) (count_stops (entry key.Moves (form (upto move_limit))) move_line (seen c.args.reader.now) _ c.in_err-n.ensures)
 
-pub returns-in-err-pass-moves : goal.returns-in-err-pass-moves
+pub returns-in_err-pass_moves : goal.returns-in_err-pass_moves
 unfolding moves_lines
-returns-in-err-pass-moves c =
-    let p = err_from_is_err_and c.from-residual-in-err-pass-moves.result c.from-residual-in-err-pass-moves.ensures.1 in
-    rw (p.1, p.2) (count_breaks (entry key.Moves (form (upto move_limit))) move_line (seen c.args.reader.now) c.in-ok-n.n (seen c.read-count.new.reader) _ c.in-ok-n.ensures c.in-err-pass-moves.ensures)
+returns-in_err-pass_moves c =
+    let p = err_from_is_err_and c.from_residual-in_err-pass_moves.result c.from_residual-in_err-pass_moves.ensures.1 in
+    rw (p.1, p.2) (count_breaks (entry key.Moves (form (upto move_limit))) move_line (seen c.args.reader.now) c.in_ok-n.n (seen c.read_count.new.reader) _ c.in_ok-n.ensures c.in_err-pass_moves.ensures)
 
 pub returns : goal.returns
 unfolding moves_lines
-returns c = count_all (entry key.Moves (form (upto move_limit))) move_line (seen c.args.reader.now) c.in-ok-n.n (seen c.read-count.new.reader) _ c.in-ok-n.ensures c.in-ok-pass-moves.ensures
+returns c = count_all (entry key.Moves (form (upto move_limit))) move_line (seen c.args.reader.now) c.in_ok-n.n (seen c.read_count.new.reader) _ c.in_ok-n.ensures c.in_ok-pass_moves.ensures

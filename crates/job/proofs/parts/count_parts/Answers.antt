@@ -10,18 +10,18 @@ use Rattle.job.specs.Reads.{part_lines, parts_lines}
 use Rattle.job.proofs.Loops.{count_stops, count_breaks, count_all}
 use Rattle.job.proofs.parts.count_parts.Goals as goal
 
-pub returns-in-err-n : goal.returns-in-err-n
+pub returns-in_err-n : goal.returns-in_err-n
 unfolding parts_lines
-returns-in-err-n c =
-    let p = err_from_is_err_and c.from-residual.result c.from-residual.ensures.1 in
-    rw (p.1, p.2) (count_stops (entry key.Parts (form (upto part_limit))) (part_lines (length c.args.rows.now) (min (length c.args.picks.now) pick_limit)) (seen c.args.reader.now) _ c.in-err-n.ensures)
+returns-in_err-n c =
+    let p = err_from_is_err_and c.from_residual.result c.from_residual.ensures.1 in
+    rw (p.1, p.2) (count_stops (entry key.Parts (form (upto part_limit))) (part_lines (length c.args.rows.now) (min (length c.args.picks.now) pick_limit)) (seen c.args.reader.now) _ c.in_err-n.ensures)
 
-pub returns-in-err-pass-parts : goal.returns-in-err-pass-parts
+pub returns-in_err-pass_parts : goal.returns-in_err-pass_parts
 unfolding parts_lines
-returns-in-err-pass-parts c =
-    let p = err_from_is_err_and c.from-residual-in-err-pass-parts.result c.from-residual-in-err-pass-parts.ensures.1 in
-    rw (p.1, p.2) (count_breaks (entry key.Parts (form (upto part_limit))) (part_lines (length c.args.rows.now) (min (length c.args.picks.now) pick_limit)) (seen c.args.reader.now) c.in-ok-n.n (seen c.read-count.new.reader) _ c.in-ok-n.ensures c.in-err-pass-parts.ensures)
+returns-in_err-pass_parts c =
+    let p = err_from_is_err_and c.from_residual-in_err-pass_parts.result c.from_residual-in_err-pass_parts.ensures.1 in
+    rw (p.1, p.2) (count_breaks (entry key.Parts (form (upto part_limit))) (part_lines (length c.args.rows.now) (min (length c.args.picks.now) pick_limit)) (seen c.args.reader.now) c.in_ok-n.n (seen c.read_count.new.reader) _ c.in_ok-n.ensures c.in_err-pass_parts.ensures)
 
 pub returns : goal.returns
 unfolding parts_lines
-returns c = count_all (entry key.Parts (form (upto part_limit))) (part_lines (length c.args.rows.now) (min (length c.args.picks.now) pick_limit)) (seen c.args.reader.now) c.in-ok-n.n (seen c.read-count.new.reader) _ c.in-ok-n.ensures c.in-ok-pass-parts.ensures
+returns c = count_all (entry key.Parts (form (upto part_limit))) (part_lines (length c.args.rows.now) (min (length c.args.picks.now) pick_limit)) (seen c.args.reader.now) c.in_ok-n.n (seen c.read_count.new.reader) _ c.in_ok-n.ensures c.in_ok-pass_parts.ensures

@@ -14,17 +14,17 @@ pub loop-i-preserved : goal.loop-i-preserved
 loop-i-preserved c =
     let m : length c.loop-i.rows ≡ length c.args.rows.now = omega arith in
     let k : length c.loop-i.picks ≡ length c.args.picks.now = omega arith in
-    forget_more (part_lines (length c.args.rows.now) (min (length c.args.picks.now) pick_limit)) c.args.n (seen c.args.reader.now) c.loop-i.i (seen c.loop-i.reader) (seen c.pass-part.new.reader) (omega arith)
-    (c.in-ok-pass-part.ensures ∙ (λ j. passed (part_lines (m j) (min (k j) pick_limit)) (seen c.loop-i.reader))) c.loop-i.invariant
+    forget_more (part_lines (length c.args.rows.now) (min (length c.args.picks.now) pick_limit)) c.args.n (seen c.args.reader.now) c.loop-i.i (seen c.loop-i.reader) (seen c.pass_part.new.reader) (omega arith)
+    (c.in_ok-pass_part.ensures ∙ (λ j. passed (part_lines (m j) (min (k j) pick_limit)) (seen c.loop-i.reader))) c.loop-i.invariant
 
-pub returns-in-err-pass-part : goal.returns-in-err-pass-part
-returns-in-err-pass-part c =
-    let p = err_from_is_err_and c.from-residual.result c.from-residual.ensures.1 in
+pub returns-in_err-pass_part : goal.returns-in_err-pass_part
+returns-in_err-pass_part c =
+    let p = err_from_is_err_and c.from_residual.result c.from_residual.ensures.1 in
     let m : length c.loop-i.rows ≡ length c.args.rows.now = omega arith in
     let k : length c.loop-i.picks ≡ length c.args.picks.now = omega arith in
     rw (p.1, p.2)
     (forget_stops (part_lines (length c.args.rows.now) (min (length c.args.picks.now) pick_limit)) c.args.n (seen c.args.reader.now) c.loop-i.i (seen c.loop-i.reader) _ (omega arith)
-    (c.in-err-pass-part.ensures ∙ (λ j. passed (part_lines (m j) (min (k j) pick_limit)) (seen c.loop-i.reader))) c.loop-i.invariant)
+    (c.in_err-pass_part.ensures ∙ (λ j. passed (part_lines (m j) (min (k j) pick_limit)) (seen c.loop-i.reader))) c.loop-i.invariant)
 
 pub returns : goal.returns
 returns c = pass_last (part_lines (length c.args.rows.now) (min (length c.args.picks.now) pick_limit)) c.args.n (seen c.args.reader.now) c.loop-i.i (seen c.loop-i.reader) (omega arith) c.loop-i.invariant

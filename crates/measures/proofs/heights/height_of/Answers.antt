@@ -4,8 +4,8 @@ use Rattle.measures.proofs.Entries.{all_part}
 use Rattle.measures.proofs.HeightPass.{greatest_low, open_height, other_height}
 use Rattle.measures.proofs.heights.height_of.Goals as goal
 
-pub overflow-add-result : goal.overflow-add-result
-overflow-add-result c =
+pub overflow_add-result : goal.overflow_add-result
+overflow_add-result c =
     let from = c.args.shape.first in
     let to = from + c.args.shape.lefts + c.args.shape.rights in
     let part = take (to - from) (drop from c.args.heights.now) in

@@ -20,14 +20,14 @@ loop-i-init c = (
 pub loop-i-preserved : goal.loop-i-preserved
 loop-i-preserved c =
     let i = c.loop-i.i - 1 in (
-      length-set c.loop-i.heights i c.height-of-height.result ∙ c.loop-i.invariant.0,
-      all_set (λ h. h ≤ greatest_height) 0 c.loop-i.heights i c.height-of-height.result (ltb-false greatest_height c.height-of-height.result (sym c.if-over.ensures)) c.loop-i.invariant.1,
+      length-set c.loop-i.heights i c.height_of-height.result ∙ c.loop-i.invariant.0,
+      all_set (λ h. h ≤ greatest_height) 0 c.loop-i.heights i c.height_of-height.result (ltb-false greatest_height c.height_of-height.result (sym c.if-over.ensures)) c.loop-i.invariant.1,
       λ t e.
           let next : c.loop-i.i ≡ suc i = omega arith in
           let here : i < size t = omega (arith, ap length e, length_shapes t) in
           let old : Noted (Kept height 0 c.loop-i.heights) t (suc i) = subst (λ j. Noted (Kept height 0 c.loop-i.heights) t j) next (c.loop-i.invariant.2 t e) in
-          kept_more height 0 t i c.loop-i.heights c.height-of-height.result (omega (arith, c.loop-i.invariant.0))
-          (height_read t i c.args.shapes.now _ c.loop-i.heights c.height-of-height.result e here c.height-of-height.ensures old) old,
+          kept_more height 0 t i c.loop-i.heights c.height_of-height.result (omega (arith, c.loop-i.invariant.0))
+          (height_read t i c.args.shapes.now _ c.loop-i.heights c.height_of-height.result e here c.height_of-height.ensures old) old,
     )
 
 pub returns-then-over : goal.returns-then-over
@@ -36,8 +36,8 @@ returns-then-over c t e =
     let next : c.loop-i.i ≡ suc i = omega arith in
     let here : i < size t = omega (arith, ap length e, length_shapes t) in
     let old : Noted (Kept height 0 c.loop-i.heights) t (suc i) = subst (λ j. Noted (Kept height 0 c.loop-i.heights) t j) next (c.loop-i.invariant.2 t e) in
-    let is = height_read t i c.args.shapes.now _ c.loop-i.heights c.height-of-height.result e here c.height-of-height.ensures old in
-    let high : greatest_height < height t = omega (arith, rows_lower t i here, is, ltb-true greatest_height c.height-of-height.result (sym c.if-over.ensures)) in
+    let is = height_read t i c.args.shapes.now _ c.loop-i.heights c.height_of-height.result e here c.height_of-height.ensures old in
+    let high : greatest_height < height t = omega (arith, rows_lower t i here, is, ltb-true greatest_height c.height_of-height.result (sym c.if-over.ensures)) in
     sym (lt-ltb greatest_height (height t) high)
 
 pub returns : goal.returns

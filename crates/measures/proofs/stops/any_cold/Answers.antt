@@ -21,10 +21,10 @@ loop-i-init c = (
 pub loop-i-preserved : goal.loop-i-preserved
 loop-i-preserved c =
     let i = c.loop-i.i - 1 in
-    let l : ℤ = to_z w16 (of_z w16 c.stop-of-left.result) in
-    let r : ℤ = to_z w16 (of_z w16 c.stop-of-right.result) in
-    let lSame : l ≡ c.stop-of-left.result = omega (arith, ints) in
-    let rSame : r ≡ c.stop-of-right.result = omega (arith, ints) in (
+    let l : ℤ = to_z w16 (of_z w16 c.stop_of-left.result) in
+    let r : ℤ = to_z w16 (of_z w16 c.stop_of-right.result) in
+    let lSame : l ≡ c.stop_of-left.result = omega (arith, ints) in
+    let rSame : r ≡ c.stop_of-right.result = omega (arith, ints) in (
       length-set c.loop-i.lefts i l ∙ c.loop-i.invariant.0,
       length-set c.loop-i.rights i r ∙ c.loop-i.invariant.1,
       all_set Score (pos 0) c.loop-i.lefts i l (omega (arith, ints), omega (arith, ints)) c.loop-i.invariant.2,
@@ -34,8 +34,8 @@ loop-i-preserved c =
           let here : i < size t = omega (arith, ap length e, length_shapes t) in
           let old : Noted (Seen c.loop-i.lefts c.loop-i.rights) t (suc i) = subst (λ j. Noted (Seen c.loop-i.lefts c.loop-i.rights) t j) next (c.loop-i.invariant.4 t e) in
           seen_more t i c.loop-i.lefts c.loop-i.rights l r here (omega (arith, c.loop-i.invariant.0)) (omega (arith, c.loop-i.invariant.1))
-          (lSame ∙ stop_read t i c.args.shapes.now _ c.loop-i.lefts c.loop-i.rights Left c.stop-of-left.result e here c.stop-of-left.ensures.stop old)
-          (rSame ∙ stop_read t i c.args.shapes.now _ c.loop-i.lefts c.loop-i.rights Right c.stop-of-right.result e here c.stop-of-right.ensures.stop old)
+          (lSame ∙ stop_read t i c.args.shapes.now _ c.loop-i.lefts c.loop-i.rights Left c.stop_of-left.result e here c.stop_of-left.ensures.stop old)
+          (rSame ∙ stop_read t i c.args.shapes.now _ c.loop-i.lefts c.loop-i.rights Right c.stop_of-right.result e here c.stop_of-right.ensures.stop old)
           (omega (arith, ints, c.if-hurts.ensures)) old,
     )
 
@@ -45,9 +45,9 @@ returns-then-hurts c t e =
     let next : c.loop-i.i ≡ suc i = omega arith in
     let here : i < size t = omega (arith, ap length e, length_shapes t) in
     let old : Noted (Seen c.loop-i.lefts c.loop-i.rights) t (suc i) = subst (λ j. Noted (Seen c.loop-i.lefts c.loop-i.rights) t j) next (c.loop-i.invariant.4 t e) in
-    seen_cold t i c.stop-of-left.result c.stop-of-right.result here
-    (stop_read t i c.args.shapes.now _ c.loop-i.lefts c.loop-i.rights Left c.stop-of-left.result e here c.stop-of-left.ensures.stop old)
-    (stop_read t i c.args.shapes.now _ c.loop-i.lefts c.loop-i.rights Right c.stop-of-right.result e here c.stop-of-right.ensures.stop old)
+    seen_cold t i c.stop_of-left.result c.stop_of-right.result here
+    (stop_read t i c.args.shapes.now _ c.loop-i.lefts c.loop-i.rights Left c.stop_of-left.result e here c.stop_of-left.ensures.stop old)
+    (stop_read t i c.args.shapes.now _ c.loop-i.lefts c.loop-i.rights Right c.stop_of-right.result e here c.stop_of-right.ensures.stop old)
     (omega (arith, ints, c.if-hurts.ensures))
 
 pub returns : goal.returns

@@ -16,17 +16,17 @@ loop-i-preserved c =
     let k : length c.loop-i.picks ≡ length c.args.picks.now = omega arith in
     chain_more (seat_part (length c.args.rows.now) (min (length c.args.picks.now) pick_limit)) c.args.n c.loop-i.i
     (trees c.loop-i.bank) (trees c.seat_part.new.bank) (seen c.loop-i.reader) (seen c.seat_part.new.reader) _ (omega arith)
-    (c.in-ok-seat-part.ensures ∙ (λ j. seat_part (m j) (min (k j) pick_limit) (trees c.loop-i.bank) (seen c.loop-i.reader))) c.loop-i.invariant
+    (c.in_ok-seat_part.ensures ∙ (λ j. seat_part (m j) (min (k j) pick_limit) (trees c.loop-i.bank) (seen c.loop-i.reader))) c.loop-i.invariant
 
-pub returns-in-err-seat-part : goal.returns-in-err-seat-part
-returns-in-err-seat-part c =
-    let p = err_from_is_err_and c.from-residual.result c.from-residual.ensures.1 in
+pub returns-in_err-seat_part : goal.returns-in_err-seat_part
+returns-in_err-seat_part c =
+    let p = err_from_is_err_and c.from_residual.result c.from_residual.ensures.1 in
     let m : length c.loop-i.rows ≡ length c.args.rows.now = omega arith in
     let k : length c.loop-i.picks ≡ length c.args.picks.now = omega arith in
     rw (p.1, p.2)
     (chain_stops (seat_part (length c.args.rows.now) (min (length c.args.picks.now) pick_limit)) c.args.n c.loop-i.i
     (trees c.loop-i.bank) (seen c.loop-i.reader) _ _ (omega arith)
-    (c.in-err-seat-part.ensures ∙ (λ j. seat_part (m j) (min (k j) pick_limit) (trees c.loop-i.bank) (seen c.loop-i.reader))) c.loop-i.invariant)
+    (c.in_err-seat_part.ensures ∙ (λ j. seat_part (m j) (min (k j) pick_limit) (trees c.loop-i.bank) (seen c.loop-i.reader))) c.loop-i.invariant)
 
 pub returns : goal.returns
 returns c = chain_last (seat_part (length c.args.rows.now) (min (length c.args.picks.now) pick_limit)) c.args.n c.loop-i.i (trees c.loop-i.bank) (seen c.loop-i.reader) _ (omega arith) c.loop-i.invariant

@@ -11,7 +11,7 @@ returns-in-Ok c =
       run = h.run;
       bank = h.bank;
       blank = h.blank;
-      page = page_of (length c.args.rows.now) (min (length c.args.picks.now) pick_limit) c.args.job.now c.args.out.now (Ok c.in-Ok.n) c.write-sheet.new.out h.run;
+      page = page_of (length c.args.rows.now) (min (length c.args.picks.now) pick_limit) c.args.job.now c.args.out.now (Ok c.in-Ok.n) c.write_sheet.new.out h.run;
       exact = run_exact;
     }
 
@@ -22,6 +22,6 @@ returns-in-Err c =
       run = h.run;
       bank = c.clear-in-Err.ensures;
       blank = h.blank;
-      page = page_of (length c.args.rows.now) (min (length c.args.picks.now) pick_limit) c.args.job.now c.args.out.now (Err c.in-Err.fault) c.write-sheet.new.out h.run;
+      page = page_of (length c.args.rows.now) (min (length c.args.picks.now) pick_limit) c.args.job.now c.args.out.now (Err c.in-Err.fault) c.write_sheet.new.out h.run;
       exact = run_exact;
     }

@@ -8,30 +8,30 @@ use Rattle.runner.specs.Runs.{run_lines}
 use Rattle.runner.proofs.Ways.{length_stops, lines_stop, bytes_left, run_ends}
 use Rattle.runner.proofs.run.run_text.Goals as goal
 
-pub returns-in-err-check-length : goal.returns-in-err-check-length
-returns-in-err-check-length c =
-    let p = err_from_is_err_and c.from-residual.result c.from-residual.ensures.1 in
-    rw (p.1, p.2) (length_stops (length c.args.rows.now) (min (length c.args.picks.now) pick_limit) c.args.job.now _ c.in-err-check-length.ensures)
+pub returns-in_err-check_length : goal.returns-in_err-check_length
+returns-in_err-check_length c =
+    let p = err_from_is_err_and c.from_residual.result c.from_residual.ensures.1 in
+    rw (p.1, p.2) (length_stops (length c.args.rows.now) (min (length c.args.picks.now) pick_limit) c.args.job.now _ c.in_err-check_length.ensures)
 
-pub returns-in-err-sheet : goal.returns-in-err-sheet
-returns-in-err-sheet c =
-    let p = err_from_is_err_and c.from-residual-in-err-sheet.result c.from-residual-in-err-sheet.ensures.1 in
+pub returns-in_err-sheet : goal.returns-in_err-sheet
+returns-in_err-sheet c =
+    let p = err_from_is_err_and c.from_residual-in_err-sheet.result c.from_residual-in_err-sheet.ensures.1 in
     let lent = length c.args.rows.now in
     let room = min (length c.args.picks.now) pick_limit in
     rw (p.1, p.2)
-    (lines_stop lent room c.args.job.now c.in-ok-check-length.ensures _ (ap (run_lines lent room) (sym c.new-reader.ensures) ∙ c.in-err-sheet.ensures))
+    (lines_stop lent room c.args.job.now c.in_ok-check_length.ensures _ (ap (run_lines lent room) (sym c.new-reader.ensures) ∙ c.in_err-sheet.ensures))
 
 pub returns-then-reader-gt0 : goal.returns-then-reader-gt0
 returns-then-reader-gt0 c =
     let lent = length c.args.rows.now in
     let room = min (length c.args.picks.now) pick_limit in
-    let h = c.in-ok-sheet.ensures in
-    bytes_left lent room c.args.job.now c.in-ok-check-length.ensures h.0 (seen c.run_lines.new.reader) (ap (run_lines lent room) (sym c.new-reader.ensures) ∙ h.1) (omega arith)
-    ∙ ap (λ n. Err (fault BytesAfterJob n)) (sym c.saturating-sub.ensures)
+    let h = c.in_ok-sheet.ensures in
+    bytes_left lent room c.args.job.now c.in_ok-check_length.ensures h.0 (seen c.run_lines.new.reader) (ap (run_lines lent room) (sym c.new-reader.ensures) ∙ h.1) (omega arith)
+    ∙ ap (λ n. Err (fault BytesAfterJob n)) (sym c.saturating_sub.ensures)
 
 pub returns : goal.returns
 returns c =
     let lent = length c.args.rows.now in
     let room = min (length c.args.picks.now) pick_limit in
-    let h = c.in-ok-sheet.ensures in
-    (h.0, run_ends lent room c.args.job.now c.in-ok-check-length.ensures h.0 (seen c.run_lines.new.reader) (ap (run_lines lent room) (sym c.new-reader.ensures) ∙ h.1) (omega arith), h.2, h.3)
+    let h = c.in_ok-sheet.ensures in
+    (h.0, run_ends lent room c.args.job.now c.in_ok-check_length.ensures h.0 (seen c.run_lines.new.reader) (ap (run_lines lent room) (sym c.new-reader.ensures) ∙ h.1) (omega arith), h.2, h.3)

@@ -11,24 +11,24 @@ use Rattle.sheet.proofs.writing.page_of.Goals as goal
 at_first : (s : Sheet) (p : Page) → Fitting s → p.used ≡ 0 → Room (sheet_text s) p
 at_first s p f z = record { fits = omega (arith, sheet_short s f) }
 
-pub put-head-requires : goal.put-head-requires
+pub put_head-requires : goal.put_head-requires
 unfolding sheet_text
-put-head-requires c = room_first _ _ (at_first c.args.sheet.now c.new-page.result c.requires c.new-page.ensures.1)
+put_head-requires c = room_first _ _ (at_first c.args.sheet.now c.new-page.result c.requires c.new-page.ensures.1)
 
-pub put-parts-requires : goal.put-parts-requires
+pub put_parts-requires : goal.put_parts-requires
 unfolding sheet_text
-put-parts-requires c =
-    room_first _ _ (room_then _ _ (at_first c.args.sheet.now c.new-page.result c.requires c.new-page.ensures.1) c.put-head.ensures)
+put_parts-requires c =
+    room_first _ _ (room_then _ _ (at_first c.args.sheet.now c.new-page.result c.requires c.new-page.ensures.1) c.put_head.ensures)
 
-pub put-foot-requires : goal.put-foot-requires
+pub put_foot-requires : goal.put_foot-requires
 unfolding sheet_text
-put-foot-requires c =
-    room_then _ _ (room_then _ _ (at_first c.args.sheet.now c.new-page.result c.requires c.new-page.ensures.1) c.put-head.ensures) c.put-parts.ensures
+put_foot-requires c =
+    room_then _ _ (room_then _ _ (at_first c.args.sheet.now c.new-page.result c.requires c.new-page.ensures.1) c.put_head.ensures) c.put_parts.ensures
 
 pub returns : goal.returns
 unfolding sheet_text
 returns c =
-    let whole = adds_more c.put-head.ensures (adds_more c.put-parts.ensures c.put-foot.ensures) in
+    let whole = adds_more c.put_head.ensures (adds_more c.put_parts.ensures c.put_foot.ensures) in
     record {
       text = whole.says ∙ ap (λ t. t ++ sheet_text c.args.sheet.now) c.new-page.ensures.0;
       used = omega (arith, whole.used, c.new-page.ensures.1);

@@ -14,35 +14,35 @@ room-needed : (p k : ℕ) → length (advice_line (Some (p, k))) ≡ length (wri
 unfolding advice_line
 room-needed p k = omega (arith, line_length (codes "advice=") (written p ++ (44 ∷ written k)), length-append (written p) (44 ∷ written k))
 
-pub put-line-requires : goal.put-line-requires
+pub put_line-requires : goal.put_line-requires
 unfolding advice_line
-put-line-requires c = room_as (ap advice_line c.in-default.is) c.requires
+put_line-requires c = room_as (ap advice_line c.in-default.is) c.requires
 
 pub returns-in-default : goal.returns-in-default
 unfolding advice_line
-returns-in-default c = adds_as (ap advice_line (sym c.in-default.is)) c.put-line.ensures
+returns-in-default c = adds_as (ap advice_line (sym c.in-default.is)) c.put_line.ensures
 
 pub put-requires : goal.put-requires
 put-requires c =
     record { fits = omega (arith, ap (λ a. length (advice_line a)) c.in-Some.is, room-needed c.in-Some.part c.in-Some.option) }
 
-pub put-natural-requires : goal.put-natural-requires
-put-natural-requires c =
+pub put_natural-requires : goal.put_natural-requires
+put_natural-requires c =
     record { fits = omega (arith, ap (λ a. length (advice_line a)) c.in-Some.is, room-needed c.in-Some.part c.in-Some.option, ap (λ n. length (written n)) c.from.ensures) }
 
-pub put-byte-requires : goal.put-byte-requires
-put-byte-requires c =
+pub put_byte-requires : goal.put_byte-requires
+put_byte-requires c =
     omega (arith, ap (λ a. length (advice_line a)) c.in-Some.is, room-needed c.in-Some.part c.in-Some.option, ap (λ n. length (written n)) c.from.ensures)
 
-pub put-natural-requires-2 : goal.put-natural-requires-2
-put-natural-requires-2 c =
+pub put_natural-requires-2 : goal.put_natural-requires-2
+put_natural-requires-2 c =
     record { fits = omega (arith, ap (λ a. length (advice_line a)) c.in-Some.is, room-needed c.in-Some.part c.in-Some.option, ap (λ n. length (written n)) c.from.ensures, ap (λ n. length (written n)) c.from-2.ensures) }
 
-pub put-byte-requires-2 : goal.put-byte-requires-2
-put-byte-requires-2 c =
+pub put_byte-requires-2 : goal.put_byte-requires-2
+put_byte-requires-2 c =
     omega (arith, ap (λ a. length (advice_line a)) c.in-Some.is, room-needed c.in-Some.part c.in-Some.option, ap (λ n. length (written n)) c.from.ensures, ap (λ n. length (written n)) c.from-2.ensures)
 
 pub returns : goal.returns
 returns c =
-    let put = adds_more c.put.ensures (adds_more (adds_as (ap written c.from.ensures) c.put-natural.ensures) (adds_more c.put-byte.ensures (adds_more (adds_as (ap written c.from-2.ensures) c.put-natural-2.ensures) c.put-byte-2.ensures))) in
+    let put = adds_more c.put.ensures (adds_more (adds_as (ap written c.from.ensures) c.put_natural.ensures) (adds_more c.put_byte.ensures (adds_more (adds_as (ap written c.from-2.ensures) c.put_natural-2.ensures) c.put_byte-2.ensures))) in
     adds_as (in_order c.in-Some.part c.in-Some.option ∙ ap advice_line (sym c.in-Some.is)) put

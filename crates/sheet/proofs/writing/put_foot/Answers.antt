@@ -6,57 +6,57 @@ use Rattle.sheet.specs.Sheet.{foot_text}
 use Rattle.sheet.proofs.Adding.{adds_more, adds_as, room_first, room_then, room_as}
 use Rattle.sheet.proofs.writing.put_foot.Goals as goal
 
-pub put-count-requires : goal.put-count-requires
+pub put_count-requires : goal.put_count-requires
 unfolding foot_text
-put-count-requires c = room_as (ap (λ n. line (codes "ambient=") (written n)) (sym c.from.ensures)) (room_first _ _ c.requires)
+put_count-requires c = room_as (ap (λ n. line (codes "ambient=") (written n)) (sym c.from.ensures)) (room_first _ _ c.requires)
 
-pub put-figure-requires : goal.put-figure-requires
+pub put_figure-requires : goal.put_figure-requires
 unfolding foot_text
-put-figure-requires c =
-    let a = adds_as (ap (λ n. line (codes "ambient=") (written n)) c.from.ensures) c.put-count.ensures in
+put_figure-requires c =
+    let a = adds_as (ap (λ n. line (codes "ambient=") (written n)) c.from.ensures) c.put_count.ensures in
     let floor : SFits w64 c.args.sheet.now.floor = search rules in
     room_as (ap (λ z. line (codes "floor=") (decimal z)) (sym (to_z-of_z w64 c.args.sheet.now.floor floor))) (room_first _ _ (room_then _ _ c.requires a))
 
-pub put-figure-requires-2 : goal.put-figure-requires-2
+pub put_figure-requires-2 : goal.put_figure-requires-2
 unfolding foot_text
-put-figure-requires-2 c =
-    let a = adds_as (ap (λ n. line (codes "ambient=") (written n)) c.from.ensures) c.put-count.ensures in
+put_figure-requires-2 c =
+    let a = adds_as (ap (λ n. line (codes "ambient=") (written n)) c.from.ensures) c.put_count.ensures in
     let floor : SFits w64 c.args.sheet.now.floor = search rules in
-    let put-floor = adds_as (ap (λ z. line (codes "floor=") (decimal z)) (to_z-of_z w64 c.args.sheet.now.floor floor)) c.put-figure.ensures in
+    let put-floor = adds_as (ap (λ z. line (codes "floor=") (decimal z)) (to_z-of_z w64 c.args.sheet.now.floor floor)) c.put_figure.ensures in
     let low : SFits w64 c.args.sheet.now.low = search rules in
     room_as (ap (λ z. line (codes "low=") (decimal z)) (sym (to_z-of_z w64 c.args.sheet.now.low low))) (room_first _ _ (room_then _ _ (room_then _ _ c.requires a) put-floor))
 
-pub put-figure-requires-3 : goal.put-figure-requires-3
+pub put_figure-requires-3 : goal.put_figure-requires-3
 unfolding foot_text
-put-figure-requires-3 c =
-    let a = adds_as (ap (λ n. line (codes "ambient=") (written n)) c.from.ensures) c.put-count.ensures in
+put_figure-requires-3 c =
+    let a = adds_as (ap (λ n. line (codes "ambient=") (written n)) c.from.ensures) c.put_count.ensures in
     let floor : SFits w64 c.args.sheet.now.floor = search rules in
-    let put-floor = adds_as (ap (λ z. line (codes "floor=") (decimal z)) (to_z-of_z w64 c.args.sheet.now.floor floor)) c.put-figure.ensures in
+    let put-floor = adds_as (ap (λ z. line (codes "floor=") (decimal z)) (to_z-of_z w64 c.args.sheet.now.floor floor)) c.put_figure.ensures in
     let low : SFits w64 c.args.sheet.now.low = search rules in
-    let put_low = adds_as (ap (λ z. line (codes "low=") (decimal z)) (to_z-of_z w64 c.args.sheet.now.low low)) c.put-figure-2.ensures in
+    let put_low = adds_as (ap (λ z. line (codes "low=") (decimal z)) (to_z-of_z w64 c.args.sheet.now.low low)) c.put_figure-2.ensures in
     let high : SFits w64 c.args.sheet.now.high = search rules in
     room_as (ap (λ z. line (codes "high=") (decimal z)) (sym (to_z-of_z w64 c.args.sheet.now.high high))) (room_first _ _ (room_then _ _ (room_then _ _ (room_then _ _ c.requires a) put-floor) put_low))
 
-pub put-advice-requires : goal.put-advice-requires
+pub put_advice-requires : goal.put_advice-requires
 unfolding foot_text
-put-advice-requires c =
-    let a = adds_as (ap (λ n. line (codes "ambient=") (written n)) c.from.ensures) c.put-count.ensures in
+put_advice-requires c =
+    let a = adds_as (ap (λ n. line (codes "ambient=") (written n)) c.from.ensures) c.put_count.ensures in
     let floor : SFits w64 c.args.sheet.now.floor = search rules in
-    let put-floor = adds_as (ap (λ z. line (codes "floor=") (decimal z)) (to_z-of_z w64 c.args.sheet.now.floor floor)) c.put-figure.ensures in
+    let put-floor = adds_as (ap (λ z. line (codes "floor=") (decimal z)) (to_z-of_z w64 c.args.sheet.now.floor floor)) c.put_figure.ensures in
     let low : SFits w64 c.args.sheet.now.low = search rules in
-    let put_low = adds_as (ap (λ z. line (codes "low=") (decimal z)) (to_z-of_z w64 c.args.sheet.now.low low)) c.put-figure-2.ensures in
+    let put_low = adds_as (ap (λ z. line (codes "low=") (decimal z)) (to_z-of_z w64 c.args.sheet.now.low low)) c.put_figure-2.ensures in
     let high : SFits w64 c.args.sheet.now.high = search rules in
-    let put-high = adds_as (ap (λ z. line (codes "high=") (decimal z)) (to_z-of_z w64 c.args.sheet.now.high high)) c.put-figure-3.ensures in
+    let put-high = adds_as (ap (λ z. line (codes "high=") (decimal z)) (to_z-of_z w64 c.args.sheet.now.high high)) c.put_figure-3.ensures in
     room_then _ _ (room_then _ _ (room_then _ _ (room_then _ _ c.requires a) put-floor) put_low) put-high
 
 pub returns : goal.returns
 unfolding foot_text
 returns c =
-    let a = adds_as (ap (λ n. line (codes "ambient=") (written n)) c.from.ensures) c.put-count.ensures in
+    let a = adds_as (ap (λ n. line (codes "ambient=") (written n)) c.from.ensures) c.put_count.ensures in
     let floor : SFits w64 c.args.sheet.now.floor = search rules in
-    let put-floor = adds_as (ap (λ z. line (codes "floor=") (decimal z)) (to_z-of_z w64 c.args.sheet.now.floor floor)) c.put-figure.ensures in
+    let put-floor = adds_as (ap (λ z. line (codes "floor=") (decimal z)) (to_z-of_z w64 c.args.sheet.now.floor floor)) c.put_figure.ensures in
     let low : SFits w64 c.args.sheet.now.low = search rules in
-    let put_low = adds_as (ap (λ z. line (codes "low=") (decimal z)) (to_z-of_z w64 c.args.sheet.now.low low)) c.put-figure-2.ensures in
+    let put_low = adds_as (ap (λ z. line (codes "low=") (decimal z)) (to_z-of_z w64 c.args.sheet.now.low low)) c.put_figure-2.ensures in
     let high : SFits w64 c.args.sheet.now.high = search rules in
-    let put-high = adds_as (ap (λ z. line (codes "high=") (decimal z)) (to_z-of_z w64 c.args.sheet.now.high high)) c.put-figure-3.ensures in
-    adds_more a (adds_more put-floor (adds_more put_low (adds_more put-high c.put-advice.ensures)))
+    let put-high = adds_as (ap (λ z. line (codes "high=") (decimal z)) (to_z-of_z w64 c.args.sheet.now.high high)) c.put_figure-3.ensures in
+    adds_more a (adds_more put-floor (adds_more put_low (adds_more put-high c.put_advice.ensures)))

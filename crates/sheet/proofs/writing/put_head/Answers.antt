@@ -5,33 +5,33 @@ use Rattle.sheet.specs.Sheet.{head_text}
 use Rattle.sheet.proofs.Adding.{adds_more, adds_as, room_first, room_then, room_as}
 use Rattle.sheet.proofs.writing.put_head.Goals as goal
 
-pub put-line-requires : goal.put-line-requires
+pub put_line-requires : goal.put_line-requires
 unfolding head_text
-put-line-requires c = room_first _ _ c.requires
+put_line-requires c = room_first _ _ c.requires
 
-pub put-line-requires-2 : goal.put-line-requires-2
+pub put_line-requires-2 : goal.put_line-requires-2
 unfolding head_text
-put-line-requires-2 c =
-    room_as (ap (line (codes "side=")) (sym c.side-name.ensures)) (room_first _ _ (room_then _ _ c.requires c.put-line.ensures))
+put_line-requires-2 c =
+    room_as (ap (line (codes "side=")) (sym c.side_name.ensures)) (room_first _ _ (room_then _ _ c.requires c.put_line.ensures))
 
-pub put-line-requires-3 : goal.put-line-requires-3
+pub put_line-requires-3 : goal.put_line-requires-3
 unfolding head_text
-put-line-requires-3 c =
-    let side = adds_as (ap (line (codes "side=")) c.side-name.ensures) c.put-line-2.ensures in
-    room_as (ap (line (codes "turn=")) (sym c.turn-name.ensures)) (room_first _ _ (room_then _ _ (room_then _ _ c.requires c.put-line.ensures) side))
+put_line-requires-3 c =
+    let side = adds_as (ap (line (codes "side=")) c.side_name.ensures) c.put_line-2.ensures in
+    room_as (ap (line (codes "turn=")) (sym c.turn_name.ensures)) (room_first _ _ (room_then _ _ (room_then _ _ c.requires c.put_line.ensures) side))
 
-pub put-count-requires : goal.put-count-requires
+pub put_count-requires : goal.put_count-requires
 unfolding head_text
-put-count-requires c =
-    let side = adds_as (ap (line (codes "side=")) c.side-name.ensures) c.put-line-2.ensures in
-    let turn = adds_as (ap (line (codes "turn=")) c.turn-name.ensures) c.put-line-3.ensures in
+put_count-requires c =
+    let side = adds_as (ap (line (codes "side=")) c.side_name.ensures) c.put_line-2.ensures in
+    let turn = adds_as (ap (line (codes "turn=")) c.turn_name.ensures) c.put_line-3.ensures in
     room_as (ap (λ n. line (codes "parts=") (written n)) (sym c.from.ensures))
-    (room_then _ _ (room_then _ _ (room_then _ _ c.requires c.put-line.ensures) side) turn)
+    (room_then _ _ (room_then _ _ (room_then _ _ c.requires c.put_line.ensures) side) turn)
 
 pub returns : goal.returns
 unfolding head_text
 returns c =
-    adds_more c.put-line.ensures
-    (adds_more (adds_as (ap (line (codes "side=")) c.side-name.ensures) c.put-line-2.ensures)
-    (adds_more (adds_as (ap (line (codes "turn=")) c.turn-name.ensures) c.put-line-3.ensures)
-    (adds_as (ap (λ n. line (codes "parts=") (written n)) c.from.ensures) c.put-count.ensures)))
+    adds_more c.put_line.ensures
+    (adds_more (adds_as (ap (line (codes "side=")) c.side_name.ensures) c.put_line-2.ensures)
+    (adds_more (adds_as (ap (line (codes "turn=")) c.turn_name.ensures) c.put_line-3.ensures)
+    (adds_as (ap (λ n. line (codes "parts=") (written n)) c.from.ensures) c.put_count.ensures)))

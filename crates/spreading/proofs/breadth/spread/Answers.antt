@@ -13,7 +13,7 @@ loop-i-preserved g c = (
   same_behind c.args.free.now c.loop-i.free c.loop-i.i _ c.loop-i.invariant.2,
   λ t e.
       grown_step (g.R.RuleSet.tree c.args.rules.now) t c.loop-i.i c.loop-i.n c.loop-i.codes c.append.new.codes c.append-in-loop-i.new.codes c.loop-i.free _
-      (omega arith) (omega arith) (c.loop-i.invariant.3 t e) c.shape-of-shape.ensures c.append.ensures c.append-in-loop-i.ensures,
+      (omega arith) (omega arith) (c.loop-i.invariant.3 t e) c.shape_of-shape.ensures c.append.ensures c.append-in-loop-i.ensures,
 )
 
 pub returns-then-free-eq0 : goal.returns-then-free-eq0
@@ -24,7 +24,7 @@ returns-then-free-n g c = record {
   taken = tt;
   rows = λ t e.
       grown_over (g.R.RuleSet.tree c.args.rules.now) t c.loop-i.i c.loop-i.n _ c.loop-i.codes c.loop-i.free _
-      (omega arith) (c.loop-i.invariant.3 t e) c.shape-of-shape.ensures (omega arith);
+      (omega arith) (c.loop-i.invariant.3 t e) c.shape_of-shape.ensures (omega arith);
 }
 
 pub returns : goal.returns

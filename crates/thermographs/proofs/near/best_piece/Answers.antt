@@ -7,10 +7,10 @@ use Rattle.thermographs.proofs.near.best_piece.Goals as goal
 
 pub loop-i-init : goal.loop-i-init
 loop-i-init c = (
-  c.near-piece-best.ensures.ahead,
-  c.near-piece-best.ensures.ranged,
-  best_last c.args.side c.args.corners.now c.args.options.now (length c.args.options.now - 1) c.args.t c.near-piece-best.result
-      (omega (arith, c.requires.some)) c.near-piece-best.ensures.linear,
+  c.near_piece-best.ensures.ahead,
+  c.near_piece-best.ensures.ranged,
+  best_last c.args.side c.args.corners.now c.args.options.now (length c.args.options.now - 1) c.args.t c.near_piece-best.result
+      (omega (arith, c.requires.some)) c.near_piece-best.ensures.linear,
 )
 
 pub loop-i-preserved : goal.loop-i-preserved
@@ -23,5 +23,5 @@ loop-i-preserved c =
       c.greater-best.ensures.ranged,
       best_more c.args.side c.args.corners.now c.args.options.now i c.args.t c.greater-best.result (omega arith)
           (c.greater-best.ensures.linear (near c.args.side c.args.corners.now (get_or c.args.options.now i blank))
-          (best c.args.side c.args.corners.now (drop (i + 1) c.args.options.now)) c.near-piece.ensures.linear old),
+          (best c.args.side c.args.corners.now (drop (i + 1) c.args.options.now)) c.near_piece.ensures.linear old),
     )

@@ -26,8 +26,8 @@ returns c =
     let read : to_z w32 (of_z w32 c.wall-wall.result.start) ≡ w.start = omega (arith, ints) in
     let base : to_z w32 (of_z w32 c.own.result) ≡ own side w.start = ◌∙◌ {b = c.own.result} (omega (arith, ints)) (c.own.ensures ∙ ap (own side) read) in
     record {
-      ahead = c.piece-at.ensures.ahead (omega (arith, c.requires.below));
-      ranged = c.piece-at.ensures.ranged;
-      linear = subst (λ (z : Wall). Linear (rising (own side w.start) (run z corners)) c.args.t c.piece-at.result) e
-          (subst (λ (v : ℤ). Linear (rising v (run c.wall-wall.result corners)) c.args.t c.piece-at.result) base c.piece-at.ensures.linear);
+      ahead = c.piece_at.ensures.ahead (omega (arith, c.requires.below));
+      ranged = c.piece_at.ensures.ranged;
+      linear = subst (λ (z : Wall). Linear (rising (own side w.start) (run z corners)) c.args.t c.piece_at.result) e
+          (subst (λ (v : ℤ). Linear (rising v (run c.wall-wall.result corners)) c.args.t c.piece_at.result) base c.piece_at.ensures.linear);
     }

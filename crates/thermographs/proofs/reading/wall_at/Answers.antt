@@ -24,8 +24,8 @@ passed corners f x s w fair h e =
     let r = start-in s (wall_of f s).start (run (wall_of f s) corners) ((told_is_read corners f x fair h).tame s 0) in
     omega (arith, ints)
 
-pub value-at-requires : goal.value-at-requires
-value-at-requires c =
+pub value_at-requires : goal.value_at-requires
+value_at-requires c =
     let (x, fair, h) = c.requires in
     let corners : List ℕ = c.args.corners.now in
     let w : Wall = c.wall-wall.result in
@@ -43,6 +43,6 @@ returns c x fair h =
     let w : Wall = c.wall-wall.result in
     let e = c.wall-wall.ensures in
     let K = told_is_read corners c.args.row x fair h in
-    let back : to_z w32 (of_z w32 c.value-at.result) ≡ c.value-at.result = omega (arith, ints, c.value-at.type-inv) in
-    back ∙ c.value-at.ensures ∙ ap (λ (v : ℤ). drawn c.args.side v (run w corners) c.args.t) (passed corners c.args.row x c.args.side w fair h e)
+    let back : to_z w32 (of_z w32 c.value_at.result) ≡ c.value_at.result = omega (arith, ints, c.value_at.type_inv) in
+    back ∙ c.value_at.ensures ∙ ap (λ (v : ℤ). drawn c.args.side v (run w corners) c.args.t) (passed corners c.args.row x c.args.side w fair h e)
     ∙ ap (λ (z : Wall). drawn c.args.side z.start (run z corners) c.args.t) e ∙ K.reads c.args.side c.args.t

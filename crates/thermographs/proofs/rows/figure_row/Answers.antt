@@ -7,8 +7,8 @@ use Rattle.thermographs.proofs.OpenRow.{ended_row}
 use Rattle.thermographs.proofs.Options.{ready_open, ready_ended}
 use Rattle.thermographs.proofs.rows.figure_row.Goals as goal
 
-pub open-row-requires : goal.open-row-requires
-open-row-requires c =
+pub open_row-requires : goal.open_row-requires
+open_row-requires c =
     let (f, x, h) = c.requires.ready in
     let (L, R, e, O) = ready_open _ c.args.figures.now c.args.shape f x h c.in-Open.is c.start-from.result c.start-mid.result (c.start-mid.result + c.count.result)
     c.start-from.ensures c.start-mid.ensures (ap (λ (n : ℕ). c.start-mid.result + n) c.count.ensures) (omega (arith, c.requires.inside)) in
@@ -16,15 +16,15 @@ open-row-requires c =
 
 pub returns-in-Open : goal.returns-in-Open
 returns-in-Open c = record {
-  kept = c.open-row.ensures.kept;
+  kept = c.open_row.ensures.kept;
   row = λ f x h.
       let (L, R, e, O) = ready_open _ c.args.figures.now c.args.shape f x h c.in-Open.is c.start-from.result c.start-mid.result (c.start-mid.result + c.count.result)
       c.start-from.ensures c.start-mid.ensures (ap (λ (n : ℕ). c.start-mid.result + n) c.count.ensures) (omega (arith, c.requires.inside)) in
-      subst (λ (y : Tree). RowInto c.args.used y c.args.corners.now c.open-row.result c.open-row.new.corners) (sym e) (c.open-row.ensures.row L R O);
+      subst (λ (y : Tree). RowInto c.args.used y c.args.corners.now c.open_row.result c.open_row.new.corners) (sym e) (c.open_row.ensures.row L R O);
 }
 
-pub ended-row-requires : goal.ended-row-requires
-ended-row-requires c =
+pub ended_row-requires : goal.ended_row-requires
+ended_row-requires c =
     let (f, x, h) = c.requires.ready in
     let s = (ready_ended _ c.args.figures.now c.args.shape f x h c.in-default.not-Open).1 in
     ((omega (arith, ints, s.0, s.1), omega (arith, ints, s.0, s.1)), omega (arith, c.requires.room.0, c.requires.room.1))

@@ -10,8 +10,8 @@ use Rattle.thermographs.proofs.rows.figure_rows.Goals as goal
 pub loop-i-init : goal.loop-i-init
 loop-i-init c t fair e = pass_none t c.args.used c.args.figures.now c.args.corners.now _ (omega (arith, ap length e, length_shapes t)) c.requires.room.0
 
-pub figure-row-requires : goal.figure-row-requires
-figure-row-requires c =
+pub figure_row-requires : goal.figure_row-requires
+figure_row-requires c =
     let (t, fair, e) = c.requires.seated in
     let i = c.loop-i.i - 1 in
     let many : length c.args.shapes.now ≡ size t = ap length e ∙ length_shapes t in
@@ -31,7 +31,7 @@ returns-in-default c t fair e =
     let lt : i < size t = omega arith in
     let P = subst (λ (j : ℕ). Pass t c.args.used c.args.figures.now c.args.corners.now c.loop-i.figures c.loop-i.corners c.loop-i.n j) next (c.loop-i.invariant t fair e) in
     pass_short t c.args.used c.args.figures.now c.args.corners.now c.loop-i.figures c.loop-i.corners c.loop-i.n i P lt c.requires.room.0 (omega arith)
-    c.figure-row.new.corners c.in-default.ensures.kept
+    c.figure_row.new.corners c.in-default.ensures.kept
     (c.in-default.ensures.row (first t i) (row t i)
     (pass_ready t c.args.used c.args.figures.now c.args.corners.now c.loop-i.figures c.loop-i.corners c.loop-i.n i P fair lt c.args.shapes.now _ e))
 
@@ -46,7 +46,7 @@ loop-i-preserved c t fair e =
     (pass_ready t c.args.used c.args.figures.now c.args.corners.now c.loop-i.figures c.loop-i.corners c.loop-i.n i P fair lt c.args.shapes.now _ e) in
     let begins = ap (λ (f : Figures). f.right.begin + f.right.count) R.0 in
     pass_more t c.args.used c.args.figures.now c.args.corners.now c.loop-i.figures c.loop-i.corners c.loop-i.n i P lt c.requires.room.0 (omega arith)
-    c.in-Some.row c.figure-row.new.corners _ (omega (arith, c.requires.rows)) c.in-Some.ensures.kept (omega arith) R (omega (arith, begins, corners_many (row t i)))
+    c.in-Some.row c.figure_row.new.corners _ (omega (arith, c.requires.rows)) c.in-Some.ensures.kept (omega arith) R (omega (arith, begins, corners_many (row t i)))
 
 pub returns : goal.returns
 returns c t fair e =

@@ -15,8 +15,8 @@ used-kept used at strip entry l e =
 pub loop-t-init : goal.loop-t-init
 loop-t-init c = drawn_none _ c.args.temperature c.args.at c.args.corners.now _ refl c.requires.room.1
 
-pub best-piece-piece-requires : goal.best-piece-piece-requires
-best-piece-piece-requires c =
+pub best_piece-piece-requires : goal.best_piece-piece-requires
+best_piece-piece-requires c =
     let e = used-kept c.args.used c.args.at c.loop-t.corners c.args.corners.now c.requires.room.0 c.loop-t.invariant.kept in
     record {
       some = c.requires.some;
@@ -28,13 +28,13 @@ pub returns-in-default : goal.returns-in-default
 returns-in-default c =
     let f : ℕ → ℤ = best c.args.side (take c.args.used c.args.corners.now) c.args.options.now in
     let e = used-kept c.args.used c.args.at c.loop-t.corners c.args.corners.now c.requires.room.0 c.loop-t.invariant.kept in
-    let lin : Linear f c.loop-t.t c.best-piece-piece.result =
-    subst (λ (s : List ℕ). Linear (best c.args.side s c.args.options.now) c.loop-t.t c.best-piece-piece.result) e c.best-piece-piece.ensures.linear in
+    let lin : Linear f c.loop-t.t c.best_piece-piece.result =
+    subst (λ (s : List ℕ). Linear (best c.args.side s c.args.options.now) c.loop-t.t c.best_piece-piece.result) e c.best_piece-piece.ensures.linear in
     record {
       fits = drawn_kept f c.args.temperature c.args.at c.args.corners.now c.loop-t.corners c.loop-t.trail c.loop-t.t c.loop-t.invariant
-          (not c.best-piece-piece.result.slope) c.loop-t.t c.turn.new.out c.in-default.ensures.out;
+          (not c.best_piece-piece.result.slope) c.loop-t.t c.turn.new.out c.in-default.ensures.out;
       wrote = drawn_short f c.args.temperature c.args.at c.args.corners.now c.loop-t.corners c.loop-t.trail c.loop-t.t c.loop-t.invariant
-          c.best-piece-piece.result (min c.best-piece-piece.result.until c.args.temperature) c.turn.new.out lin (omega (arith, c.best-piece-piece.ensures.ahead))
+          c.best_piece-piece.result (min c.best_piece-piece.result.until c.args.temperature) c.turn.new.out lin (omega (arith, c.best_piece-piece.ensures.ahead))
           (omega arith) (omega arith) c.in-default.ensures.trail;
     }
 
@@ -42,10 +42,10 @@ pub loop-t-preserved : goal.loop-t-preserved
 loop-t-preserved c =
     let f : ℕ → ℤ = best c.args.side (take c.args.used c.args.corners.now) c.args.options.now in
     let e = used-kept c.args.used c.args.at c.loop-t.corners c.args.corners.now c.requires.room.0 c.loop-t.invariant.kept in
-    let lin : Linear f c.loop-t.t c.best-piece-piece.result =
-    subst (λ (s : List ℕ). Linear (best c.args.side s c.args.options.now) c.loop-t.t c.best-piece-piece.result) e c.best-piece-piece.ensures.linear in
+    let lin : Linear f c.loop-t.t c.best_piece-piece.result =
+    subst (λ (s : List ℕ). Linear (best c.args.side s c.args.options.now) c.loop-t.t c.best_piece-piece.result) e c.best_piece-piece.ensures.linear in
     drawn_more f c.args.temperature c.args.at c.args.corners.now c.loop-t.corners c.loop-t.trail c.loop-t.t c.loop-t.invariant
-    c.best-piece-piece.result c.min-t.result c.in-Some.next c.turn.new.out lin (omega (arith, c.best-piece-piece.ensures.ahead)) (omega arith) (omega arith)
+    c.best_piece-piece.result c.min-t.result c.in-Some.next c.turn.new.out lin (omega (arith, c.best_piece-piece.ensures.ahead)) (omega arith) (omega arith)
     c.in-Some.ensures.trail c.in-Some.ensures.out
 
 pub returns-in-default-turn : goal.returns-in-default-turn

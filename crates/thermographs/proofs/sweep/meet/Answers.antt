@@ -16,22 +16,22 @@ next c =
     (best_tame Right c.args.corners.now c.args.rights.now c.requires.rights c.requires.some.1) c.loop-n.invariant
     c.reach-t.ensures.within.0 c.reach-t.ensures.within.1 c.reach-t.ensures.hot
 
-pub best-piece-m-requires-in-loop-n : goal.best-piece-m-requires-in-loop-n
-best-piece-m-requires-in-loop-n c = record { some = c.requires.some.0; sound = c.requires.lefts; below = (next c).1 }
+pub best_piece-m-requires-in-loop-n : goal.best_piece-m-requires-in-loop-n
+best_piece-m-requires-in-loop-n c = record { some = c.requires.some.0; sound = c.requires.lefts; below = (next c).1 }
 
-pub best-piece-n-requires-in-loop-n : goal.best-piece-n-requires-in-loop-n
-best-piece-n-requires-in-loop-n c = record { some = c.requires.some.1; sound = c.requires.rights; below = (next (goal.at.best-piece-n-requires-in-loop-n c).After-reach-t).1 }
+pub best_piece-n-requires-in-loop-n : goal.best_piece-n-requires-in-loop-n
+best_piece-n-requires-in-loop-n c = record { some = c.requires.some.1; sound = c.requires.rights; below = (next (goal.at.best_piece-n-requires-in-loop-n c).After-reach-t).1 }
 
 pub loop-n-preserved : goal.loop-n-preserved
 loop-n-preserved c =
     let k = next (goal.at.loop-n-preserved c).After-reach-t in
     record {
-      m_ahead = c.best-piece-m-in-loop-n.ensures.ahead;
-      n_ahead = c.best-piece-n-in-loop-n.ensures.ahead;
-      m_ranged = c.best-piece-m-in-loop-n.ensures.ranged;
-      n_ranged = c.best-piece-n-in-loop-n.ensures.ranged;
-      m_linear = c.best-piece-m-in-loop-n.ensures.linear;
-      n_linear = c.best-piece-n-in-loop-n.ensures.linear;
+      m_ahead = c.best_piece-m-in-loop-n.ensures.ahead;
+      n_ahead = c.best_piece-n-in-loop-n.ensures.ahead;
+      m_ranged = c.best_piece-m-in-loop-n.ensures.ranged;
+      n_ranged = c.best_piece-n-in-loop-n.ensures.ranged;
+      m_linear = c.best_piece-m-in-loop-n.ensures.linear;
+      n_linear = c.best_piece-n-in-loop-n.ensures.linear;
       low = k.1;
       apart = k.0;
     }
@@ -40,13 +40,13 @@ pub returns : goal.returns
 returns c =
     let a : ℕ → ℤ = best Left c.args.corners.now c.args.lefts.now in
     let b : ℕ → ℤ = best Right c.args.corners.now c.args.rights.now in
-    let p = linear_at a 0 c.best-piece-m.result (omega (arith, c.best-piece-m.ensures.ahead)) c.best-piece-m.ensures.linear in
-    let q = linear_at b 0 c.best-piece-n.result (omega (arith, c.best-piece-n.ensures.ahead)) c.best-piece-n.ensures.linear in
+    let p = linear_at a 0 c.best_piece-m.result (omega (arith, c.best_piece-m.ensures.ahead)) c.best_piece-m.ensures.linear in
+    let q = linear_at b 0 c.best_piece-n.result (omega (arith, c.best_piece-n.ensures.ahead)) c.best_piece-n.ensures.linear in
     let k = met_here a b c.loop-n.m c.loop-n.n c.loop-n.t c.loop-n.invariant c.loop-n-test.ensures in
     let low = c.loop-n.invariant.low in
     let r = c.loop-n.invariant.m_ranged in
-    let rm = c.best-piece-m.ensures.ranged in
-    let rn = c.best-piece-n.ensures.ranged in
+    let rm = c.best_piece-m.ensures.ranged in
+    let rn = c.best_piece-n.ensures.ranged in
     record {
       left = omega (arith, ints);
       right = omega (arith, ints);

@@ -16,12 +16,12 @@ returns-then-used-eq-MOST c =
     let n : length xs ≡ 16 = omega (arith, length-take c.loop-piece.used c.loop-piece.list) in
     ap (λ o. judged o c.args.line) (sym (begun_full xs f c.in-Some.piece.now (pieces c.in-Some.more.now) n) ∙ (ap (λ ls. few (begun xs (all_of f ls))) (sym (pieces_cut c.loop-piece.rest.now _ _ c.in-Some.ensures)) ∙ c.loop-piece.invariant.2))
 
-pub returns-in-err-list : goal.returns-in-err-list
-returns-in-err-list c =
+pub returns-in_err-list : goal.returns-in_err-list
+returns-in_err-list c =
     let xs = take c.loop-piece.used c.loop-piece.list in
     let f = upto c.args.last in
-    let p = err_from_is_err_and c.from-residual.result c.from-residual.ensures.1 in
-    let j = judged_err (f c.in-Some.piece.now) c.args.line _ c.in-err-list.ensures in
+    let p = err_from_is_err_and c.from_residual.result c.from_residual.ensures.1 in
+    let j = judged_err (f c.in-Some.piece.now) c.args.line _ c.in_err-list.ensures in
     rw (p.1, p.2)
     (ap Err j.1
     ∙ ap (λ o. judged o c.args.line)
@@ -38,7 +38,7 @@ loop-piece-preserved c =
       omega arith,
       length-set c.loop-piece.list c.loop-piece.used _ ∙ c.loop-piece.invariant.1,
       ap (λ ys. few (begun ys (all_of f (pieces c.in-Some.more.now)))) (take_more_set c.loop-piece.list c.loop-piece.used _ (omega arith))
-          ∙ (ap few (sym (begun_more xs f c.in-Some.piece.now (pieces c.in-Some.more.now) _ (sym (judged_ok _ c.args.line _ (sym c.in-ok-list.ensures)))))
+          ∙ (ap few (sym (begun_more xs f c.in-Some.piece.now (pieces c.in-Some.more.now) _ (sym (judged_ok _ c.args.line _ (sym c.in_ok-list.ensures)))))
           ∙ (ap (λ ls. few (begun xs (all_of f ls))) (sym (pieces_cut c.loop-piece.rest.now _ _ c.in-Some.ensures)) ∙ c.loop-piece.invariant.2)),
     )
 
@@ -49,12 +49,12 @@ returns-then-used-eq-MOST-2 c =
     let n : length xs ≡ 16 = omega (arith, length-take c.loop-piece.used c.loop-piece.list) in
     ap (λ o. judged o c.args.line) (sym (begun_full xs f c.loop-piece.rest.now [] n) ∙ (ap (λ ls. few (begun xs (all_of f ls))) (sym (pieces_last c.loop-piece.rest.now c.in-default.ensures)) ∙ c.loop-piece.invariant.2))
 
-pub returns-in-err-list-2 : goal.returns-in-err-list-2
-returns-in-err-list-2 c =
+pub returns-in_err-list-2 : goal.returns-in_err-list-2
+returns-in_err-list-2 c =
     let xs = take c.loop-piece.used c.loop-piece.list in
     let f = upto c.args.last in
-    let p = err_from_is_err_and c.from-residual-in-err-list-2.result c.from-residual-in-err-list-2.ensures.1 in
-    let j = judged_err (f c.loop-piece.rest.now) c.args.line _ c.in-err-list-2.ensures in
+    let p = err_from_is_err_and c.from_residual-in_err-list-2.result c.from_residual-in_err-list-2.ensures.1 in
+    let j = judged_err (f c.loop-piece.rest.now) c.args.line _ c.in_err-list-2.ensures in
     rw (p.1, p.2)
     (ap Err j.1
     ∙ ap (λ o. judged o c.args.line)
@@ -65,9 +65,9 @@ pub returns : goal.returns
 returns c =
     let xs = take c.loop-piece.used c.loop-piece.list in
     let f = upto c.args.last in
-    let n : length (xs ++ (c.in-ok-list-2.field-0 ∷ [])) ≤ 16 = omega (arith, length-append xs (c.in-ok-list-2.field-0 ∷ []), length-take c.loop-piece.used c.loop-piece.list) in
+    let n : length (xs ++ (c.in_ok-list-2.field-0 ∷ [])) ≤ 16 = omega (arith, length-append xs (c.in_ok-list-2.field-0 ∷ []), length-take c.loop-piece.used c.loop-piece.list) in
     ap Ok (take_more_set c.loop-piece.list c.loop-piece.used _ (omega arith))
     ∙ ap (λ o. judged o c.args.line)
-    (sym (few_begun (xs ++ (c.in-ok-list-2.field-0 ∷ [])) f n)
-    ∙ (ap few (sym (begun_more xs f c.loop-piece.rest.now [] _ (sym (judged_ok _ c.args.line _ (sym c.in-ok-list-2.ensures)))))
+    (sym (few_begun (xs ++ (c.in_ok-list-2.field-0 ∷ [])) f n)
+    ∙ (ap few (sym (begun_more xs f c.loop-piece.rest.now [] _ (sym (judged_ok _ c.args.line _ (sym c.in_ok-list-2.ensures)))))
     ∙ (ap (λ ls. few (begun xs (all_of f ls))) (sym (pieces_last c.loop-piece.rest.now c.in-default.ensures)) ∙ c.loop-piece.invariant.2)))

@@ -7,29 +7,29 @@ use Rattle.tree_text.specs.Rows.{leaf}
 use Rattle.tree_text.proofs.Ways.{row_stops, line_leaf, line_fork, line_wrong}
 use Rattle.tree_text.proofs.row_lines.read_row.Goals as goal
 
-pub returns-in-err-line : goal.returns-in-err-line
-returns-in-err-line c =
-    let p = err_from_is_err_and c.from-residual.result c.from-residual.ensures.1 in
-    rw (p.1, p.2) (record { row = row_stops c.args.last c.args.room c.args.place (seen c.args.reader.now) _ c.in-err-line.ensures; room = tt })
+pub returns-in_err-line : goal.returns-in_err-line
+returns-in_err-line c =
+    let p = err_from_is_err_and c.from_residual.result c.from_residual.ensures.1 in
+    rw (p.1, p.2) (record { row = row_stops c.args.last c.args.room c.args.place (seen c.args.reader.now) _ c.in_err-line.ensures; room = tt })
 
-pub returns-in-err-score : goal.returns-in-err-score
-returns-in-err-score c =
-    let p = err_from_is_err_and c.from-residual-in-err-score.result c.from-residual-in-err-score.ensures.1 in
-    let w = line_leaf c.args.last c.args.room c.args.place (seen c.args.reader.now) c.in-ok-line.line c.in-ok-line.number (seen c.next-line.new.self) c.in-End.value c.in-ok-line.ensures c.in-End.is in
-    rw (p.1, p.2) (record { row = ap (λ r. then r (λ z. Ok (leaf z, seen c.next-line.new.self))) c.in-err-score.ensures ∙ w; room = tt })
+pub returns-in_err-score : goal.returns-in_err-score
+returns-in_err-score c =
+    let p = err_from_is_err_and c.from_residual-in_err-score.result c.from_residual-in_err-score.ensures.1 in
+    let w = line_leaf c.args.last c.args.room c.args.place (seen c.args.reader.now) c.in_ok-line.line c.in_ok-line.number (seen c.next_line.new.self) c.in-End.value c.in_ok-line.ensures c.in-End.is in
+    rw (p.1, p.2) (record { row = ap (λ r. then r (λ z. Ok (leaf z, seen c.next_line.new.self))) c.in_err-score.ensures ∙ w; room = tt })
 
-pub returns-in-ok-score : goal.returns-in-ok-score
-returns-in-ok-score c =
-    let w = line_leaf c.args.last c.args.room c.args.place (seen c.args.reader.now) c.in-ok-line.line c.in-ok-line.number (seen c.next-line.new.self) c.in-End.value c.in-ok-line.ensures c.in-End.is in
-    record { row = ap (λ z. Ok (leaf z, seen c.next-line.new.self)) (omega (arith, ints)) ∙ (ap (λ r. then r (λ z. Ok (leaf z, seen c.next-line.new.self))) c.in-ok-score.ensures ∙ w); room = search rules }
+pub returns-in_ok-score : goal.returns-in_ok-score
+returns-in_ok-score c =
+    let w = line_leaf c.args.last c.args.room c.args.place (seen c.args.reader.now) c.in_ok-line.line c.in_ok-line.number (seen c.next_line.new.self) c.in-End.value c.in_ok-line.ensures c.in-End.is in
+    record { row = ap (λ z. Ok (leaf z, seen c.next_line.new.self)) (omega (arith, ints)) ∙ (ap (λ r. then r (λ z. Ok (leaf z, seen c.next_line.new.self))) c.in_ok-score.ensures ∙ w); room = search rules }
 
 pub returns-in-Left : goal.returns-in-Left
 returns-in-Left c =
-    let w = line_fork c.args.last c.args.room c.args.place (seen c.args.reader.now) c.in-ok-line.line c.in-ok-line.number (seen c.next-line.new.self) c.in-Left.value c.in-ok-line.ensures c.in-Left.is in
-    record { row = c.fork-of.ensures.row ∙ w; room = c.fork-of.ensures.room }
+    let w = line_fork c.args.last c.args.room c.args.place (seen c.args.reader.now) c.in_ok-line.line c.in_ok-line.number (seen c.next_line.new.self) c.in-Left.value c.in_ok-line.ensures c.in-Left.is in
+    record { row = c.fork_of.ensures.row ∙ w; room = c.fork_of.ensures.room }
 
 pub returns-in-default : goal.returns-in-default
 returns-in-default c = record {
-  row = line_wrong c.args.last c.args.room c.args.place (seen c.args.reader.now) c.in-ok-line.line c.in-ok-line.number (seen c.next-line.new.self) c.in-ok-line.ensures c.in-default.not-End c.in-default.not-Left;
+  row = line_wrong c.args.last c.args.room c.args.place (seen c.args.reader.now) c.in_ok-line.line c.in_ok-line.number (seen c.next_line.new.self) c.in_ok-line.ensures c.in-default.not-End c.in-default.not-Left;
   room = tt;
 }

@@ -35,14 +35,14 @@ flip : (n : ℕ) (s : Bool) → suc n % 2 ≡ bit s → n % 2 ≡ bit (not s)
 flip n true e = omega arith
 flip n false e = omega arith
 
-pub overflow-add-all : goal.overflow-add-all
-overflow-add-all c = let e = here c in let l = rise_low c.args.base c.args.corners.now c.requires.tame c.args.t in omega arith
+pub overflow_add-all : goal.overflow_add-all
+overflow_add-all c = let e = here c in let l = rise_low c.args.base c.args.corners.now c.requires.tame c.args.t in omega arith
 
-pub overflow-cast-result : goal.overflow-cast-result
-overflow-cast-result c = let e = here c in let l = rise_low c.args.base c.args.corners.now c.requires.tame c.args.t in omega (arith, ints)
+pub overflow_cast-result : goal.overflow_cast-result
+overflow_cast-result c = let e = here c in let l = rise_low c.args.base c.args.corners.now c.requires.tame c.args.t in omega (arith, ints)
 
-pub overflow-add-result : goal.overflow-add-result
-overflow-add-result c = let e = here c in let l = rise_low c.args.base c.args.corners.now c.requires.tame c.args.t in omega (arith, ints, c.requires.tame 0)
+pub overflow_add-result : goal.overflow_add-result
+overflow_add-result c = let e = here c in let l = rise_low c.args.base c.args.corners.now c.requires.tame c.args.t in omega (arith, ints, c.requires.tame 0)
 
 pub returns-then-c-t : goal.returns-then-c-t
 returns-then-c-t c =
@@ -58,8 +58,8 @@ returns-then-c-t c =
           (record { value = _; slope = _; until = _ }) (omega arith) (λ i h. omega (arith, c.loop-c.invariant.4 i h)) (λ _. omega arith) c.loop-c.invariant.3 (omega (arith, ints));
     }
 
-pub overflow-add-moved : goal.overflow-add-moved
-overflow-add-moved c = let e = turn c in let l = rise_low c.args.base c.args.corners.now c.requires.tame (get_or c.args.corners.now c.loop-c.c-index 0) in omega arith
+pub overflow_add-moved : goal.overflow_add-moved
+overflow_add-moved c = let e = turn c in let l = rise_low c.args.base c.args.corners.now c.requires.tame (get_or c.args.corners.now c.loop-c.c-index 0) in omega arith
 
 pub loop-c-preserved : goal.loop-c-preserved
 loop-c-preserved c =
@@ -73,11 +73,11 @@ loop-c-preserved c =
       below_more _ _ (λ k h. omega (arith, c.loop-c.invariant.4 k h)) (omega arith),
     )
 
-pub overflow-cast-result-2 : goal.overflow-cast-result-2
-overflow-cast-result-2 c = let e = there c in let l = rise_low c.args.base c.args.corners.now c.requires.tame c.args.t in omega (arith, ints)
+pub overflow_cast-result-2 : goal.overflow_cast-result-2
+overflow_cast-result-2 c = let e = there c in let l = rise_low c.args.base c.args.corners.now c.requires.tame c.args.t in omega (arith, ints)
 
-pub overflow-add-result-2 : goal.overflow-add-result-2
-overflow-add-result-2 c = let e = there c in let l = rise_low c.args.base c.args.corners.now c.requires.tame c.args.t in omega (arith, ints, c.requires.tame 0)
+pub overflow_add-result-2 : goal.overflow_add-result-2
+overflow_add-result-2 c = let e = there c in let l = rise_low c.args.base c.args.corners.now c.requires.tame c.args.t in omega (arith, ints, c.requires.tame 0)
 
 pub returns : goal.returns
 returns c =

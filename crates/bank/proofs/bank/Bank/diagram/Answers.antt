@@ -14,7 +14,7 @@ new-requires c = record { rising = (no_rise, no_rise); fitting = (zero_left, zer
 
 pub returns-then-i-figures : goal.returns-then-i-figures
 returns-then-i-figures c =
-    shows_nothing (trees c.args.self.now) c.args.part c.args.row c.new.result (omega (arith, ap length c.figures-of-figures.ensures, c.if-i-figures.true))
+    shows_nothing (trees c.args.self.now) c.args.part c.args.row c.new.result (omega (arith, ap length c.figures_of-figures.ensures, c.if-i-figures.true))
     (record {
       left_corners = c.new.ensures.left;
       right_corners = c.new.ensures.right;
@@ -30,12 +30,12 @@ picture-requires c =
     let ts = trees b in
     let p = c.args.part in
     let i = c.args.row in
-    let figs = c.figures-of-figures.result.now in
-    let strips = c.corners-of-corners.result.now in
-    let here = is_there ts p i (omega (arith, ap length c.figures-of-figures.ensures, c.if-i-figures.false)) in
+    let figs = c.figures_of-figures.result.now in
+    let strips = c.corners_of-corners.result.now in
+    let here = is_there ts p i (omega (arith, ap length c.figures_of-figures.ensures, c.if-i-figures.false)) in
     let x = row (get_or ts p none) i in
     let f = get_or figs i blank in
-    let tells = told ts p i figs strips here c.figures-of-figures.ensures c.corners-of-corners.ensures in
+    let tells = told ts p i figs strips here c.figures_of-figures.ensures c.corners_of-corners.ensures in
     let fit = ∥∥₁_elim (trees_held b) ∥∥₁_prop (λ held. ∣ fair_row b.columns ts p i here held ∣₁) in
     record {
       inside = (tells.inside Left, tells.inside Right);
@@ -49,14 +49,14 @@ returns c =
     let ts = trees b in
     let p = c.args.part in
     let i = c.args.row in
-    let figs = c.figures-of-figures.result.now in
-    let strips = c.corners-of-corners.result.now in
-    let here = is_there ts p i (omega (arith, ap length c.figures-of-figures.ensures, c.if-i-figures.false)) in
+    let figs = c.figures_of-figures.result.now in
+    let strips = c.corners_of-corners.result.now in
+    let here = is_there ts p i (omega (arith, ap length c.figures_of-figures.ensures, c.if-i-figures.false)) in
     let x = row (get_or ts p none) i in
     let f = get_or figs i blank in
-    let tells = told ts p i figs strips here c.figures-of-figures.ensures c.corners-of-corners.ensures in
+    let tells = told ts p i figs strips here c.figures_of-figures.ensures c.corners_of-corners.ensures in
     let fit = ∥∥₁_elim (trees_held b) ∥∥₁_prop (λ held. ∣ fair_row b.columns ts p i here held ∣₁) in
-    let is = figures_are ts p i figs here c.figures-of-figures.ensures in
+    let is = figures_are ts p i figs here c.figures_of-figures.ensures in
     let e = c.picture.ensures in
     shows_row ts p i c.picture.result here
     (pictures x f strips c.picture.result tells (ap (λ (y : Figures). y.mean) is) (ap (λ (y : Figures). y.temperature) is) fit

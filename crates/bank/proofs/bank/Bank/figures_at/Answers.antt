@@ -6,8 +6,8 @@ use Rattle.bank.proofs.Drafting.{length_figures}
 use Rattle.bank.proofs.Showing.{part_there, figures_are}
 use Rattle.bank.proofs.bank.Bank.figures_at.Goals as goal
 
-pub bounds-figures-of-row : goal.bounds-figures-of-row
-bounds-figures-of-row c =
+pub bounds-figures_of-row : goal.bounds-figures_of-row
+bounds-figures_of-row c =
     let ts = trees c.args.self.now in
     omega (arith, ap length (c.figures_of.ensures ∙ part_there part_figures ts c.args.part c.requires.part), length_figures (get_or ts c.args.part none), c.requires.line)
 

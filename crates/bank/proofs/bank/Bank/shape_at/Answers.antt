@@ -6,8 +6,8 @@ use Rattle.bank.specs.Contents.{trees}
 use Rattle.bank.proofs.Showing.{part_there}
 use Rattle.bank.proofs.bank.Bank.shape_at.Goals as goal
 
-pub bounds-shapes-of-row : goal.bounds-shapes-of-row
-bounds-shapes-of-row c =
+pub bounds-shapes_of-row : goal.bounds-shapes_of-row
+bounds-shapes_of-row c =
     let ts = trees c.args.self.now in
     omega (arith, ap length (c.shapes_of.ensures ∙ part_there shapes_of ts c.args.part c.requires.part), length_shapes (get_or ts c.args.part none), c.requires.line)
 

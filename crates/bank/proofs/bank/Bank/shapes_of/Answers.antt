@@ -5,4 +5,4 @@ use Rattle.bank.proofs.Trees.{trees_held}
 use Rattle.bank.proofs.bank.Bank.shapes_of.Goals as goal
 
 pub returns : goal.returns
-returns c = ∥∥₁_elim (trees_held c.args.self.now) (shapes_set _ _) (λ h. c.part-shapes.ensures (trees c.args.self.now) h)
+returns c = ∥∥₁_elim (trees_held c.args.self.now) (shapes_set _ _) (λ h. c.part_shapes.ensures (trees c.args.self.now) h)

@@ -6,4 +6,4 @@ use Rattle.bank.proofs.columns.Columns.corners_of.Goals as goal
 pub returns : goal.returns
 returns c ts h =
     part_at strip_of 0 c.args.self.now.corners c.args.self.now.corner_starts c.args.self.now.parts c.args.self.now.turns ts h.rows.many h.corners (omega (arith, c.requires.within.2)) c.args.part
-    c.corner-span-span.result.from c.corner-span-span.result.to c.corner-span-span.ensures.from c.corner-span-span.ensures.to
+    c.corner_span-span.result.from c.corner_span-span.result.to c.corner_span-span.ensures.from c.corner_span-span.ensures.to

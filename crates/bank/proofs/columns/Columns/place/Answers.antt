@@ -17,29 +17,29 @@ returns-in-Err g c =
       placed = λ ts h. unchanged c.args.self.now ts k.0 c.in-Err.refusal c.fill-filled.new.shapes c.fill-filled.new.figures c.fill-filled.new.corners c.requires full h q;
     }
 
-pub overflow-add-self : goal.overflow-add-self
-overflow-add-self g c =
+pub overflow_add-self : goal.overflow_add-self
+overflow_add-self g c =
     let o = g.R.RuleSet.tree c.args.rules.now c.args.code in
     let k = known_tree o (sym c.if-not-known.ensures) in
     let q = c.in-Ok.ensures k.0 k.1 in
     omega (arith, q.room, length_free c.args.self.now.shapes row_limit c.args.self.now.rows (omega arith), c.requires.1)
 
-pub overflow-cast-self-5 : goal.overflow-cast-self-5
-overflow-cast-self-5 g c =
+pub overflow_cast-self-5 : goal.overflow_cast-self-5
+overflow_cast-self-5 g c =
     let o = g.R.RuleSet.tree c.args.rules.now c.args.code in
     let k = known_tree o (sym c.if-not-known.ensures) in
     let q = c.in-Ok.ensures k.0 k.1 in
     omega (arith, q.room, length_free c.args.self.now.shapes row_limit c.args.self.now.rows (omega arith), c.requires.1)
 
-pub overflow-add-self-2 : goal.overflow-add-self-2
-overflow-add-self-2 g c =
+pub overflow_add-self-2 : goal.overflow_add-self-2
+overflow_add-self-2 g c =
     let o = g.R.RuleSet.tree c.args.rules.now c.args.code in
     let k = known_tree o (sym c.if-not-known.ensures) in
     let q = c.in-Ok.ensures k.0 k.1 in
     omega (arith, q.space, length_free c.args.self.now.corners corner_limit c.args.self.now.turns (omega arith), c.requires.2)
 
-pub overflow-cast-self-6 : goal.overflow-cast-self-6
-overflow-cast-self-6 g c =
+pub overflow_cast-self-6 : goal.overflow_cast-self-6
+overflow_cast-self-6 g c =
     let o = g.R.RuleSet.tree c.args.rules.now c.args.code in
     let k = known_tree o (sym c.if-not-known.ensures) in
     let q = c.in-Ok.ensures k.0 k.1 in

@@ -6,4 +6,4 @@ use Rattle.bank.proofs.columns.Columns.shapes_of.Goals as goal
 pub returns : goal.returns
 returns c ts h =
     part_at shapes_of blank c.args.self.now.shapes c.args.self.now.row_starts c.args.self.now.parts c.args.self.now.rows ts h.rows.many h.rows.rows (omega (arith, c.requires.within.1)) c.args.part
-    c.row-span-span.result.from c.row-span-span.result.to c.row-span-span.ensures.from c.row-span-span.ensures.to
+    c.row_span-span.result.from c.row_span-span.result.to c.row_span-span.ensures.from c.row_span-span.ensures.to

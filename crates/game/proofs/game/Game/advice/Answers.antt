@@ -7,53 +7,53 @@ use Rattle.game.proofs.Games.{part_now, there_now, at_now}
 use Rattle.game.proofs.Positions.{few_parts}
 use Rattle.game.proofs.game.Game.advice.Goals as goal
 
-pub returns-in-err-part : goal.returns-in-err-part
-returns-in-err-part c =
+pub returns-in_err-part : goal.returns-in_err-part
+returns-in_err-part c =
     let g = c.args.self.now in
     let ts = trees g.bank.now in
-    let n = c.in-err-part.field-0.0 in
-    let refused = advice_refused ts g.side g.play g.told c.hottest-part-hottest.result n c.in-err-part.ensures c.hottest-part-hottest.ensures in
-    let p = err_from_is_err_and c.from-residual.result c.from-residual.ensures.1 in
+    let n = c.in_err-part.field-0.0 in
+    let refused = advice_refused ts g.side g.play g.told c.hottest_part-hottest.result n c.in_err-part.ensures c.hottest_part-hottest.ensures in
+    let p = err_from_is_err_and c.from_residual.result c.from_residual.ensures.1 in
     rw (p.1, p.2) (record { answer = refused; promise = advice_told ts g.side g.play g.told (Err n) refused })
 
 pub offset-bounds-self-part : goal.offset-bounds-self-part
 offset-bounds-self-part c =
     let g = c.args.self.now in
-    let p = c.in-ok-part.part in
-    let lt = advice_there (trees g.bank.now) g.side g.play g.told c.hottest-part-hottest.result p c.in-ok-part.ensures c.hottest-part-hottest.ensures in
+    let p = c.in_ok-part.part in
+    let lt = advice_there (trees g.bank.now) g.side g.play g.told c.hottest_part-hottest.result p c.in_ok-part.ensures c.hottest_part-hottest.ensures in
     omega (arith, part_now g p lt, few_parts g.bank.now)
 
 pub bounds-self-part : goal.bounds-self-part
 bounds-self-part c =
     let g = c.args.self.now in
-    let p = c.in-ok-part.part in
-    let lt = advice_there (trees g.bank.now) g.side g.play g.told c.hottest-part-hottest.result p c.in-ok-part.ensures c.hottest-part-hottest.ensures in
+    let p = c.in_ok-part.part in
+    let lt = advice_there (trees g.bank.now) g.side g.play g.told c.hottest_part-hottest.result p c.in_ok-part.ensures c.hottest_part-hottest.ensures in
     omega (arith, part_now g p lt, few_parts g.bank.now)
 
-pub overflow-cast-part : goal.overflow-cast-part
-overflow-cast-part c =
+pub overflow_cast-part : goal.overflow_cast-part
+overflow_cast-part c =
     let g = c.args.self.now in
-    let p = c.in-ok-part.part in
-    let lt = advice_there (trees g.bank.now) g.side g.play g.told c.hottest-part-hottest.result p c.in-ok-part.ensures c.hottest-part-hottest.ensures in
+    let p = c.in_ok-part.part in
+    let lt = advice_there (trees g.bank.now) g.side g.play g.told c.hottest_part-hottest.result p c.in_ok-part.ensures c.hottest_part-hottest.ensures in
     omega (arith, part_now g p lt, few_parts g.bank.now)
 
-pub best-at-option-requires : goal.best-at-option-requires
-best-at-option-requires c =
+pub best_at-option-requires : goal.best_at-option-requires
+best_at-option-requires c =
     let g = c.args.self.now in
-    let p = c.in-ok-part.part in
-    let lt = advice_there (trees g.bank.now) g.side g.play g.told c.hottest-part-hottest.result p c.in-ok-part.ensures c.hottest-part-hottest.ensures in
+    let p = c.in_ok-part.part in
+    let lt = advice_there (trees g.bank.now) g.side g.play g.told c.hottest_part-hottest.result p c.in_ok-part.ensures c.hottest_part-hottest.ensures in
     record {
       row = there_now g p lt;
-      options = advice_options (trees g.bank.now) g.side g.play g.told c.hottest-part-hottest.result p c.in-ok-part.ensures c.hottest-part-hottest.ensures _ (at_now g p lt);
+      options = advice_options (trees g.bank.now) g.side g.play g.told c.hottest_part-hottest.result p c.in_ok-part.ensures c.hottest_part-hottest.ensures _ (at_now g p lt);
     }
 
 pub returns : goal.returns
 returns c =
     let g = c.args.self.now in
-    let p = c.in-ok-part.part in
-    let lt = advice_there (trees g.bank.now) g.side g.play g.told c.hottest-part-hottest.result p c.in-ok-part.ensures c.hottest-part-hottest.ensures in
+    let p = c.in_ok-part.part in
+    let lt = advice_there (trees g.bank.now) g.side g.play g.told c.hottest_part-hottest.result p c.in_ok-part.ensures c.hottest_part-hottest.ensures in
     let ts = trees g.bank.now in
-    let k = c.best-at-option.result in
+    let k = c.best_at-option.result in
     let x = position ts p (get_or g.play.rows p 0) in
-    let advised = advice_is ts g.side g.play g.told c.hottest-part-hottest.result p c.in-ok-part.ensures c.hottest-part-hottest.ensures k x (at_now g p lt) c.best-at-option.ensures in
+    let advised = advice_is ts g.side g.play g.told c.hottest_part-hottest.result p c.in_ok-part.ensures c.hottest_part-hottest.ensures k x (at_now g p lt) c.best_at-option.ensures in
     record { answer = advised; promise = advice_told ts g.side g.play g.told (Ok (p, k)) advised }

@@ -8,11 +8,11 @@ use Rattle.game.proofs.Answered.{floor_answered_lem}
 use Rattle.game.proofs.Positions.{few_parts}
 use Rattle.game.proofs.game.Game.floor.Goals as goal
 
-pub slice-bounds-nears-end : goal.slice-bounds-nears-end
-slice-bounds-nears-end c = omega (arith, few_parts c.args.self.now.bank.now)
+pub slice_bounds-nears-end : goal.slice_bounds-nears-end
+slice_bounds-nears-end c = omega (arith, few_parts c.args.self.now.bank.now)
 
-pub slice-bounds-floor-end : goal.slice-bounds-floor-end
-slice-bounds-floor-end c = omega (arith, few_parts c.args.self.now.bank.now, length-take c.parts-parts.result c.nears-nears.result)
+pub slice_bounds-floor-end : goal.slice_bounds-floor-end
+slice_bounds-floor-end c = omega (arith, few_parts c.args.self.now.bank.now, length-take c.parts-parts.result c.nears-nears.result)
 
 pub floor-requires : goal.floor-requires
 floor-requires c = omega (arith, few_parts c.args.self.now.bank.now, length-take c.parts-parts.result c.nears-nears.result)

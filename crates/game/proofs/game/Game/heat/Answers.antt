@@ -14,4 +14,4 @@ returns c =
     let g = c.args.self.now in
     let p = c.args.part in
     let there = present_at (trees g.bank.now) g.play.rows p g.enough (omega (arith, c.parts.ensures)) in
-    c.heat-at.ensures ∙ ap tree_heat (sym there)
+    c.heat_at.ensures ∙ ap tree_heat (sym there)

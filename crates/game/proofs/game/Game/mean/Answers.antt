@@ -16,4 +16,4 @@ returns c =
     let g = c.args.self.now in
     let p = c.args.part in
     let there = present_at (trees g.bank.now) g.play.rows p g.enough (omega (arith, c.parts.ensures)) in
-    ◌∙◌ {b = mean_in (Some (position (trees g.bank.now) p (get_or g.play.rows p 0)))} (omega (arith, ints, c.mean-at.ensures)) (ap mean_in (sym there))
+    ◌∙◌ {b = mean_in (Some (position (trees g.bank.now) p (get_or g.play.rows p 0)))} (omega (arith, ints, c.mean_at.ensures)) (ap mean_in (sym there))

@@ -11,23 +11,23 @@ use Rattle.game.proofs.Positions.{few_parts}
 use Rattle.game.proofs.Seated.{opened, opened_storied}
 use Rattle.game.proofs.game.Game.open.Goals as goal
 
-pub greatest-heat-hottest-requires : goal.greatest-heat-hottest-requires
-greatest-heat-hottest-requires c = first_rows part_limit (trees c.args.bank.now)
+pub greatest_heat-hottest-requires : goal.greatest_heat-hottest-requires
+greatest_heat-hottest-requires c = first_rows part_limit (trees c.args.bank.now)
 
 pub invariant-of-result : goal.invariant-of-result
 invariant-of-result c =
     let b = c.args.bank.now in
-    let e = c.greatest-heat-hottest.ensures ∙ ap hottest_of (present_first part_limit (trees b) (few_parts b)) in
+    let e = c.greatest_heat-hottest.ensures ∙ ap hottest_of (present_first part_limit (trees b) (few_parts b)) in
     let wide : length (trees b) ≤ length c.open.result.rows = omega (arith, ap length c.open.ensures.rows, length-replicate {A = ℕ} part_limit 0, few_parts b) in
-    (wide, (subst (OnRows (trees b)) (sym c.open.ensures.rows) (first_rows part_limit (trees b)), (opened_storied b c.args.side c.args.first c.greatest-heat-hottest.result c.open.result c.open.ensures.game e, tt)))
+    (wide, (subst (OnRows (trees b)) (sym c.open.ensures.rows) (first_rows part_limit (trees b)), (opened_storied b c.args.side c.args.first c.greatest_heat-hottest.result c.open.result c.open.ensures.game e, tt)))
 
 pub returns : goal.returns
 returns c =
     let b = c.args.bank.now in
-    let e = c.greatest-heat-hottest.ensures ∙ ap hottest_of (present_first part_limit (trees b) (few_parts b)) in
+    let e = c.greatest_heat-hottest.ensures ∙ ap hottest_of (present_first part_limit (trees b) (few_parts b)) in
     record {
       state = c.open.ensures.game (trees b) c.args.side (few_parts b) e;
       bank = refl;
-      story = λ ms l q. opened (trees b) ms l c.args.side c.args.first c.greatest-heat-hottest.result c.open.result c.open.ensures.game e q;
+      story = λ ms l q. opened (trees b) ms l c.args.side c.args.first c.greatest_heat-hottest.result c.open.result c.open.ensures.game e q;
       promise = promise;
     }

@@ -4,8 +4,8 @@ use Rattle.play.proofs.Tales.{play_told_lem}
 use Rattle.game.proofs.Games.{inside_so, long_after, rows_after_lem, move_storied, kept_game}
 use Rattle.game.proofs.game.Game.our_move.Goals as goal
 
-pub our-move-requires : goal.our-move-requires
-our-move-requires c = inside_so c.args.self.now.bank.now c.landing-landing.result c.landing-landing.ensures.row
+pub our_move-requires : goal.our_move-requires
+our_move-requires c = inside_so c.args.self.now.bank.now c.landing-landing.result c.landing-landing.ensures.row
 
 pub invariant-of-self : goal.invariant-of-self
 invariant-of-self c =

@@ -5,8 +5,8 @@ use Rattle.play.proofs.Tales.{play_told_lem}
 use Rattle.game.proofs.Games.{inside_so, long_after, rows_after_lem, reply_storied, kept_game}
 use Rattle.game.proofs.game.Game.their_reply.Goals as goal
 
-pub their-reply-requires : goal.their-reply-requires
-their-reply-requires c = inside_so c.args.self.now.bank.now c.landing-landing.result c.landing-landing.ensures.row
+pub their_reply-requires : goal.their_reply-requires
+their_reply-requires c = inside_so c.args.self.now.bank.now c.landing-landing.result c.landing-landing.ensures.row
 
 pub invariant-of-self : goal.invariant-of-self
 invariant-of-self c =
@@ -16,10 +16,10 @@ invariant-of-self c =
     let p = c.args.part in
     let k = c.args.option in
     let l = c.landing-landing.result in
-    let z = c.their-reply.new.self in
-    let r = c.their-reply.result in
+    let z = c.their_reply.new.self in
+    let r = c.their_reply.result in
     let leads = subst (λ s. Leads ts s y.rows p k l) c.other.ensures c.landing-landing.ensures.leads in
-    let e = c.their-reply.ensures in
+    let e = c.their_reply.ensures in
     let wide = c.args.self.now.enough in
     (long_after (length ts) y.rows z.rows l r wide e.rows, (rows_after_lem ts y.rows z.rows l r wide e.rows c.landing-landing.ensures.row c.args.self.now.on_rows, (reply_storied ts s y z l r p k e.game leads c.args.self.now.told, tt)))
 
@@ -31,10 +31,10 @@ returns c =
     let p = c.args.part in
     let k = c.args.option in
     let l = c.landing-landing.result in
-    let z = c.their-reply.new.self in
-    let r = c.their-reply.result in
+    let z = c.their_reply.new.self in
+    let r = c.their_reply.result in
     let leads = subst (λ s. Leads ts s y.rows p k l) c.other.ensures c.landing-landing.ensures.leads in
-    let e = c.their-reply.ensures in
+    let e = c.their_reply.ensures in
     let goes = e.game ts s p k leads in
     record {
       state = goes.0;

@@ -12,8 +12,8 @@ returns-in-default c = next_no_end (seen c.args.self.now) c.in-default.ensures
 pub returns-in-default-cut : goal.returns-in-default-cut
 returns-in-default-cut c = next_no_value (seen c.args.self.now) _ _ c.in-Some.ensures c.in-default-cut.ensures
 
-pub returns-in-default-key-named : goal.returns-in-default-key-named
-returns-in-default-key-named c = next_keyed (seen c.args.self.now) _ _ _ _ _ c.in-Some.ensures c.in-Some-cut.ensures c.in-default-key-named.ensures
+pub returns-in-default-key_named : goal.returns-in-default-key_named
+returns-in-default-key_named c = next_keyed (seen c.args.self.now) _ _ _ _ _ c.in-Some.ensures c.in-Some-cut.ensures c.in-default-key_named.ensures
 
 pub invariant-of-self : goal.invariant-of-self
 invariant-of-self c = (omega (arith, c.args.self.now.short, cut_shorter 10 c.args.self.now.rest.now _ _ c.in-Some.ensures), tt)
@@ -22,4 +22,4 @@ pub returns : goal.returns
 returns c =
     let s = seen c.args.self.now in
     (λ i. Ok (said (c.new.ensures.key i) (c.new.ensures.value i) s.line, at c.in-Some.rest.now (s.line + 1)))
-    ∙ next_keyed s _ _ _ _ _ c.in-Some.ensures c.in-Some-cut.ensures c.in-Some-key-named.ensures
+    ∙ next_keyed s _ _ _ _ _ c.in-Some.ensures c.in-Some-cut.ensures c.in-Some-key_named.ensures

@@ -4,18 +4,18 @@ use Rattle.std.proofs.lemmas.Result.{err_from_is_err_and}
 use Rattle.lines.proofs.Fields.{next_stops, other_key, same_key, differ_said, same_said}
 use Rattle.lines.proofs.reader.Reader.value.Goals as goal
 
-pub returns-in-err-line : goal.returns-in-err-line
-returns-in-err-line c =
-    let p = err_from_is_err_and c.from-residual.result c.from-residual.ensures.1 in
-    rw (p.1, p.2) (next_stops c.args.key (seen c.args.self.now) _ c.in-err-line.ensures)
+pub returns-in_err-line : goal.returns-in_err-line
+returns-in_err-line c =
+    let p = err_from_is_err_and c.from_residual.result c.from_residual.ensures.1 in
+    rw (p.1, p.2) (next_stops c.args.key (seen c.args.self.now) _ c.in_err-line.ensures)
 
 pub returns-then-ne : goal.returns-then-ne
 returns-then-ne c =
-    other_key c.args.key (seen c.args.self.now) _ _ c.in-ok-line.ensures
+    other_key c.args.key (seen c.args.self.now) _ _ c.in_ok-line.ensures
     (λ e. differ_said c.ne.ensures.0 c.ne.ensures.1 c.ne.ensures.2 c.if-ne.true (c.parts-found.ensures.key ∙ e))
 
 pub returns : goal.returns
 returns c =
-    ap (λ v. Ok ((v, c.in-ok-line.number), seen c.next-line.new.self)) c.parts-found.ensures.value
-    ∙ same_key c.args.key (seen c.args.self.now) _ _ c.in-ok-line.ensures
+    ap (λ v. Ok ((v, c.in_ok-line.number), seen c.next_line.new.self)) c.parts-found.ensures.value
+    ∙ same_key c.args.key (seen c.args.self.now) _ _ c.in_ok-line.ensures
     (sym c.parts-found.ensures.key ∙ same_said c.ne.ensures.0 c.ne.ensures.1 c.ne.ensures.2 c.if-ne.false)

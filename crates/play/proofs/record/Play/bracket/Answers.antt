@@ -7,6 +7,6 @@ use Rattle.play.proofs.record.Play.bracket.Goals as goal
 pub returns : goal.returns
 returns c =
     bracket_so c.args.self.now c.args.side c.args.means.now c.args.hottest _
-    (c.bracket-from.ensures
-    ∙ ap (λ v. bracket_to c.args.self.now.turn c.args.side v c.unwrap-or.result) (omega (arith, ints, c.sum.ensures.sum))
-    ∙ ap (bracket_to c.args.self.now.turn c.args.side (sum_z c.args.means.now)) c.unwrap-or.ensures)
+    (c.bracket_from.ensures
+    ∙ ap (λ v. bracket_to c.args.self.now.turn c.args.side v c.unwrap_or.result) (omega (arith, ints, c.sum.ensures.sum))
+    ∙ ap (bracket_to c.args.self.now.turn c.args.side (sum_z c.args.means.now)) c.unwrap_or.ensures)

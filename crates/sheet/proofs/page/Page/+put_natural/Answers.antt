@@ -6,13 +6,13 @@ use Rattle.sheet.proofs.Adding.{adds_more, adds_as, last_length, digit_length, l
 use Rattle.sheet.proofs.page.Page.+put_natural.Goals as goal
 use Rattle.sheet.proofs.page.Page.+put_natural.Goals.{then-n-ge10, else-n-ge10}
 
-pub put-natural-requires : goal.put-natural-requires
-put-natural-requires t c = (search rules, omega (arith, last_length c.args.n c.if-n-ge10.true))
+pub put_natural-requires : goal.put_natural-requires
+put_natural-requires t c = (search rules, omega (arith, last_length c.args.n c.if-n-ge10.true))
 
-pub put-byte-requires : goal.put-byte-requires
-put-byte-requires t c =
+pub put_byte-requires : goal.put_byte-requires
+put_byte-requires t c =
     elim c.if-n-ge10.branch [
-      | then-n-ge10 w ↦ omega (arith, last_length c.args.n w.if-n-ge10.true, w.put-natural.ensures.used, ap (λ p. p.used) w.self-is)
+      | then-n-ge10 w ↦ omega (arith, last_length c.args.n w.if-n-ge10.true, w.put_natural.ensures.used, ap (λ p. p.used) w.self-is)
       | else-n-ge10 w ↦ omega (arith, digit_length c.args.n w.if-n-ge10.false, ap (λ p. p.used) w.self-is)
     ]
 
@@ -21,7 +21,7 @@ returns t c =
     elim c.if-n-ge10.branch [
       | then-n-ge10 w ↦
           adds_as (sym (written_last c.args.n w.if-n-ge10.true))
-          (adds_more (subst (λ p. Adds (written (c.args.n / 10)) c.args.self.now p) (sym w.self-is) w.put-natural.ensures) c.put-byte.ensures)
+          (adds_more (subst (λ p. Adds (written (c.args.n / 10)) c.args.self.now p) (sym w.self-is) w.put_natural.ensures) c.put_byte.ensures)
       | else-n-ge10 w ↦
-          adds_as (last_digit c.args.n w.if-n-ge10.false) (from_same w.self-is c.put-byte.ensures)
+          adds_as (last_digit c.args.n w.if-n-ge10.false) (from_same w.self-is c.put_byte.ensures)
     ]

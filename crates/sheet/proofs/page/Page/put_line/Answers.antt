@@ -9,9 +9,9 @@ put-requires c = record { fits = omega (arith, line_length c.args.key.now c.args
 pub put-requires-2 : goal.put-requires-2
 put-requires-2 c = record { fits = omega (arith, line_length c.args.key.now c.args.value.now) }
 
-pub put-byte-requires : goal.put-byte-requires
-put-byte-requires c = omega (arith, line_length c.args.key.now c.args.value.now)
+pub put_byte-requires : goal.put_byte-requires
+put_byte-requires c = omega (arith, line_length c.args.key.now c.args.value.now)
 
 pub returns : goal.returns
 unfolding line
-returns c = adds_more c.put.ensures (adds_more c.put-2.ensures c.put-byte.ensures)
+returns c = adds_more c.put.ensures (adds_more c.put-2.ensures c.put_byte.ensures)

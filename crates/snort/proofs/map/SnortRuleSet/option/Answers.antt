@@ -8,8 +8,8 @@ coloured-requires c =
     let p = option_point c.args.self.now.points (joined c.args.self.now.near) c.args.self.now.size.1 c.args.self.now.symmetric c.args.side c.args.code c.moves.result c.args.k c.in-Some.point c.moves.ensures c.in-Some.ensures in
     omega arith
 
-pub overflow-add-result : goal.overflow-add-result
-overflow-add-result c =
+pub overflow_add-result : goal.overflow_add-result
+overflow_add-result c =
     let p = option_point c.args.self.now.points (joined c.args.self.now.near) c.args.self.now.size.1 c.args.self.now.symmetric c.args.side c.args.code c.moves.result c.args.k c.in-Some.point c.moves.ensures c.in-Some.ensures in
     let g = growth_low c.args.self.now.points (joined c.args.self.now.near) c.args.self.now.size.1 c.args.self.now.symmetric c.args.side c.in-Some.point p.0 in
     omega (arith, c.coloured.ensures)

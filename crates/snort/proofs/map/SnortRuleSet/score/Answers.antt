@@ -11,14 +11,14 @@ pub returns-then-right-ne0 : goal.returns-then-right-ne0
 returns-then-right-ne0 c =
     answer_open_score c.args.self.now.points (joined c.args.self.now.near) c.args.self.now.size.1 c.args.self.now.symmetric c.args.code c.in-Some.c c.in-Some.ensures c.legal-left.result c.legal-right.result c.legal-left.ensures c.legal-right.ensures c.if-left-ne0.true c.if-right-ne0.true
 
-pub overflow-cast-ours : goal.overflow-cast-ours
-overflow-cast-ours c = let a = ours_few c.args.self.now.points (joined c.args.self.now.near) c.args.self.now.size.1 c.args.self.now.symmetric c.args.code c.in-Some.c c.in-Some.ensures c.legal-left.result c.legal-right.result c.legal-left.ensures c.legal-right.ensures in omega (arith, ints)
+pub overflow_cast-ours : goal.overflow_cast-ours
+overflow_cast-ours c = let a = ours_few c.args.self.now.points (joined c.args.self.now.near) c.args.self.now.size.1 c.args.self.now.symmetric c.args.code c.in-Some.c c.in-Some.ensures c.legal-left.result c.legal-right.result c.legal-left.ensures c.legal-right.ensures in omega (arith, ints)
 
-pub overflow-cast-theirs : goal.overflow-cast-theirs
-overflow-cast-theirs c = let a = theirs_few c.args.self.now.points (joined c.args.self.now.near) c.args.self.now.size.1 c.args.self.now.symmetric c.args.code c.in-Some.c c.in-Some.ensures c.legal-left.result c.legal-right.result c.legal-left.ensures c.legal-right.ensures in omega (arith, ints)
+pub overflow_cast-theirs : goal.overflow_cast-theirs
+overflow_cast-theirs c = let a = theirs_few c.args.self.now.points (joined c.args.self.now.near) c.args.self.now.size.1 c.args.self.now.symmetric c.args.code c.in-Some.c c.in-Some.ensures c.legal-left.result c.legal-right.result c.legal-left.ensures c.legal-right.ensures in omega (arith, ints)
 
-pub overflow-sub-result : goal.overflow-sub-result
-overflow-sub-result c =
+pub overflow_sub-result : goal.overflow_sub-result
+overflow_sub-result c =
     let a = ours_few c.args.self.now.points (joined c.args.self.now.near) c.args.self.now.size.1 c.args.self.now.symmetric c.args.code c.in-Some.c c.in-Some.ensures c.legal-left.result c.legal-right.result c.legal-left.ensures c.legal-right.ensures in
     let b = theirs_few c.args.self.now.points (joined c.args.self.now.near) c.args.self.now.size.1 c.args.self.now.symmetric c.args.code c.in-Some.c c.in-Some.ensures c.legal-left.result c.legal-right.result c.legal-left.ensures c.legal-right.ensures in
     omega (arith, ints)
