@@ -2,7 +2,7 @@
 use Rattle.std.specs.Prelude.{◌≡◌, ℕ, ◌<◌, ◌≤◌, List, [], ℤ, pos, ◌≤ℤ◌, Some, None}
 use Rattle.terms.specs.declared.side.Side.TheVariants.{Left, Right}
 use Rattle.theory.specs.Trees.{Tree, at, size}
-use Rattle.theory.specs.Walls.{left_wall, right_wall, temperature as heat_of, mean as meanOf}
+use Rattle.theory.specs.Walls.{left_wall, right_wall, temperature as heat_of, mean as mean_of}
 use Rattle.theory.specs.Corners.{Ordered, rising, falling, corners_of}
 use Rattle.spreading.specs.Order.{row}
 use Rattle.bank.specs.declared.diagram.Diagram.{Diagram}
@@ -20,7 +20,7 @@ pub record Pictures (x : Tree) (d : Diagram) : Type 0 where
   pub right_corners : d.right.now ≡ corners_of x Right
   pub left_start : d.left_start ≡ left_wall x 0
   pub right_start : d.right_start ≡ right_wall x 0
-  pub means : d.mean ≡ meanOf x
+  pub means : d.mean ≡ mean_of x
   pub heat : d.temperature ≡ heat_of x
   pub left_rises : Ordered d.left.now
   pub right_rises : Ordered d.right.now

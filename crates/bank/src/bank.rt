@@ -43,8 +43,8 @@ impl Bank {
     }
 
     pub(crate) fn place<R: RuleSet>(&mut self, rules: &R, code: u32) -> Result<u8, Refusal>
-        ensures judged { Judged self.old.columns (tree rules.now code) result }
-        ensures placed { (ts : List Tree) → Held self.old.columns ts → Placed ts (tree rules.now code) result self.old.columns self.new.columns }
+        ensures judged { Judged self.old.columns (R.tree rules.now code) result }
+        ensures placed { (ts : List Tree) → Held self.old.columns ts → Placed ts (R.tree rules.now code) result self.old.columns self.new.columns }
     {
         self.columns.place(rules, code)
     }

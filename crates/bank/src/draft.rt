@@ -38,10 +38,10 @@ fn draft<R: RuleSet>(
     figures: &mut [Figures],
     corners: &mut [u32],
 ) -> Result<Extent, Refusal>
-    requires known { known_in (tree rules.now code) ≡ true }
+    requires known { known_in (R.tree rules.now code) ≡ true }
     requires rows { (length shapes.old ≤ row_limit) × (length shapes.old ≤ length figures.old) }
     requires corners { length corners.old ≤ corner_limit }
-    ensures { (t : Tree) → tree rules.now code ≡ Some t → DraftInto t shapes.old figures.old corners.old result shapes.new figures.new corners.new }
+    ensures { (t : Tree) → R.tree rules.now code ≡ Some t → DraftInto t shapes.old figures.old corners.old result shapes.new figures.new corners.new }
 {
     let mut codes = [0; ROW_LIMIT];
     let Some(rows) = spread(rules, code, shapes, &mut codes) else {
@@ -67,10 +67,10 @@ pub fn fill<R: RuleSet>(
     figures: &mut [Figures],
     corners: &mut [u32],
 ) -> Result<Extent, Refusal>
-    requires known { known_in (tree rules.now code) ≡ true }
+    requires known { known_in (R.tree rules.now code) ≡ true }
     requires rows { (length shapes.old ≤ row_limit) × (length shapes.old ≤ length figures.old) }
     requires corners { length corners.old ≤ corner_limit }
-    ensures { (t : Tree) → tree rules.now code ≡ Some t → FillInto t shapes.old figures.old corners.old result shapes.new figures.new corners.new }
+    ensures { (t : Tree) → R.tree rules.now code ≡ Some t → FillInto t shapes.old figures.old corners.old result shapes.new figures.new corners.new }
 {
     match draft(rules, code, shapes, figures, corners) {
         Ok(extent) => Ok(extent),

@@ -54,8 +54,8 @@ impl Columns {
     pub fn place<R: RuleSet>(&mut self, rules: &R, code: u32) -> Result<u8, Refusal>
         requires { Within self.old }
         ensures within { Within self.new }
-        ensures judged { Judged self.old (tree rules.now code) result }
-        ensures placed { (ts : List Tree) → Held self.old ts → Placed ts (tree rules.now code) result self.old self.new }
+        ensures judged { Judged self.old (R.tree rules.now code) result }
+        ensures placed { (ts : List Tree) → Held self.old ts → Placed ts (R.tree rules.now code) result self.old self.new }
     {
         let part = self.parts;
         if part as usize == PART_LIMIT {

@@ -31,7 +31,7 @@ impl Bank {
     // Seats the code's tree and answers the number of its part; or says why it is refused, and then
     // the bank is as it was.
     pub fn seat<R: RuleSet>(&mut self, rules: &R, code: u32) -> Result<u8, Refusal>
-        ensures { Seated self.old (tree rules.now code) result self.new }
+        ensures { Seated self.old (R.tree rules.now code) result self.new }
     {
         self.place(rules, code)
     }

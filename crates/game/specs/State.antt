@@ -2,7 +2,7 @@
 use Rattle.std.specs.Prelude.{◌≡◌, ℕ, ℤ, pos, Some, None, Ok, Err, Option, Result}
 use Rattle.terms.specs.declared.fault.Refusal.{Refusal}
 use Rattle.theory.specs.Trees.{Tree}
-use Rattle.theory.specs.Walls.{mean as meanOf}
+use Rattle.theory.specs.Walls.{mean as mean_of}
 use Rattle.stories.specs.Calls.{Call}
 use Rattle.stories.specs.Game as rules
 use Rattle.stories.specs.Stories.{Story, ◌then◌}
@@ -23,7 +23,7 @@ Stands st g = Behind st (trees g.bank.now) g.side g.play
 -- the mean of a part, or 0 where there is none
 abbrev pub mean_in : Option Tree → ℤ
 mean_in None = pos 0
-mean_in (Some x) = meanOf x
+mean_in (Some x) = mean_of x
 
 -- its temperature; none where it has ended, or there is no such part
 abbrev pub tree_heat : Option Tree → Option ℕ

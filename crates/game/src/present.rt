@@ -1,5 +1,5 @@
 ghost use Rattle.std.specs.Prelude.{◌≡◌};
-ghost use Rattle.theory.specs.Walls.{mean as meanOf};
+ghost use Rattle.theory.specs.Walls.{mean as mean_of};
 ghost use Rattle.stories.specs.Game.{near};
 ghost use Rattle.bank.specs.Contents.{trees};
 ghost use Rattle.play.specs.Leads.{HottestOf};
@@ -27,7 +27,7 @@ fn heats(bank: &Bank, rows: &[u16; PART_LIMIT]) -> [Option<u32>; PART_LIMIT]
 // Their means.
 pub(crate) fn means(bank: &Bank, rows: &[u16; PART_LIMIT]) -> [i32; PART_LIMIT]
     requires { OnRows (trees bank.now) rows.now }
-    ensures { Tells meanOf (trees bank.now) rows.now result }
+    ensures { Tells mean_of (trees bank.now) rows.now result }
 {
     let mut means = [0; PART_LIMIT];
     for part in 0..bank.parts() {

@@ -1,7 +1,7 @@
 ghost use Rattle.std.specs.Prelude.{◌≡◌, pos, neg_ℤ, ◌≤ℤ◌};
 ghost use Rattle.terms.specs.Sides.{own as own_of};
 ghost use Rattle.theory.specs.Limits.{wall_limit};
-ghost use Rattle.theory.specs.Walls.{mean as meanOf};
+ghost use Rattle.theory.specs.Walls.{mean as mean_of};
 ghost use Rattle.stories.specs.Game.{near, far};
 ghost use Rattle.bank.specs.Contents.{trees};
 ghost use Rattle.bank.specs.Parts.{There};
@@ -26,7 +26,7 @@ pub(crate) fn heat_at(bank: &Bank, part: u8, row: u16) -> Option<u32>
 // Its mean.
 pub(crate) fn mean_at(bank: &Bank, part: u8, row: u16) -> i32
     requires { There (trees bank.now) part row }
-    ensures { result ≡ meanOf (position (trees bank.now) part row) }
+    ensures { result ≡ mean_of (position (trees bank.now) part row) }
 {
     bank.figures_at(part, row).mean
 }

@@ -1,6 +1,6 @@
 ghost use Rattle.std.specs.Prelude.{◌≡◌, ◌+◌, ◌-◌, ◌<◌, ◌≤◌, length};
 ghost use Rattle.std.specs.Str.{bytes_eq};
-ghost use Rattle.lines.specs.Reading.{before, cut as splitAt};
+ghost use Rattle.lines.specs.Reading.{before, cut as split_at};
 ghost use Rattle.lines.specs.Seen.{two};
 
 // Where the first `b` stands, or the length.
@@ -19,7 +19,7 @@ fn find(text: &[u8], b: u8) -> usize
 
 // The parts of a text before and after its first `b`.
 pub fn cut(text: &[u8], b: u8) -> Option<(&[u8], &[u8])>
-    ensures { two result ≡ splitAt b text.now }
+    ensures { two result ≡ split_at b text.now }
 {
     let n = find(text, b);
     if n < text.len() {

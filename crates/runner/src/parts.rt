@@ -19,7 +19,7 @@ const MOST_PARTS: u16 = 8;
 
 // Seats the tree of code 0, once all lines of its part are read.
 fn seat_first<R: RuleSet>(reader: &Reader, bank: &mut Bank, rules: &R) -> Result<(), Fault>
-    ensures { leaving result (trees bank.new) ≡ on_line (seating (trees bank.old) (tree rules.now 0)) (reader.now.line - 1) }
+    ensures { leaving result (trees bank.new) ≡ on_line (seating (trees bank.old) (R.tree rules.now 0)) (reader.now.line - 1) }
 {
     at_line(bank.seat(rules, 0), reader.line.saturating_sub(1))?;
     Ok(())

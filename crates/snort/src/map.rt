@@ -1,7 +1,7 @@
 ghost use Rattle.std.specs.Prelude.{◌≡◌, ℕ, ◌^◌, ◌<◌, ◌≤◌, true, false, ◌&&◌, ◌||◌, if◌then◌else◌, Ok, Err, slice_index};
 ghost use Rattle.masks.specs.Masks.{mask_of};
 ghost use Rattle.snort.specs.Maps.{point_limit, joined, edge, edge_fits, size_fits};
-ghost use Rattle.snort.specs.Play.{beside, legal as legalFor, clash_at, clash as clashOf, colours_of, moves_mask, growth, snort_tree, ByTheRules};
+ghost use Rattle.snort.specs.Play.{beside, legal as legal_for, clash_at, clash as clash_of, colours_of, moves_mask, growth, snort_tree, ByTheRules};
 ghost use Rattle.snort.specs.Codes;
 
 use crate::colours::Colours;
@@ -69,14 +69,14 @@ impl Snort {
     // Whether a side may colour the point, its own points and those of the other given.
     fn is_legal(&self, own: u16, far: u16, k: u8) -> bool
         requires { k < self.now.points }
-        ensures { result ≡ legalFor self.now.points (joined self.now.near) own far k }
+        ensures { result ≡ legal_for self.now.points (joined self.now.near) own far k }
     {
         !has(own, k) && !has(far, k) && !self.is_beside(far, k)
     }
 
     // The points that a side may colour.
     fn legal(&self, own: u16, far: u16) -> u16
-        ensures { result ≡ mask_of (legalFor self.now.points (joined self.now.near) own far) self.now.points }
+        ensures { result ≡ mask_of (legal_for self.now.points (joined self.now.near) own far) self.now.points }
     {
         let mut mask = 0u16;
         for k in 0..self.points {
@@ -97,7 +97,7 @@ impl Snort {
 
     // Whether a point has both colours, or an edge joins the two.
     fn clash(&self, left: u16, right: u16) -> bool
-        ensures { result ≡ clashOf self.now.points (joined self.now.near) left right }
+        ensures { result ≡ clash_of self.now.points (joined self.now.near) left right }
     {
         for k in 0..self.points {
             if self.clashes_at(left, right, k) {

@@ -1,5 +1,5 @@
 ghost use Rattle.std.specs.Prelude.{◌≡◌, ◌+◌, ◌≤◌, true, List, ◌++◌, length, replicate, Some};
-ghost use Rattle.theory.specs.Trees.{Tree, options as optionsOf};
+ghost use Rattle.theory.specs.Trees.{Tree, options as options_of};
 ghost use Rattle.rules.specs.Meaning.{known_in};
 ghost use Rattle.spreading.specs.Laws.{RowsInOrder};
 ghost use Rattle.spreading.specs.Shapes.{row_limit, blank, shape_of, Stand, Taken, SpreadInto};
@@ -15,7 +15,7 @@ pub fn rows_in_order()
 
 // What a row keeps of a known code, whose options begin at row `first`.
 fn shape_of<R: RuleSet>(rules: &R, code: u32, first: u16) -> Shape
-    ensures { (t : Tree) → tree rules.now code ≡ Some t → result ≡ shape_of first t }
+    ensures { (t : Tree) → R.tree rules.now code ≡ Some t → result ≡ shape_of first t }
 {
     match rules.score(code) {
         Some(score) => Shape {
@@ -38,7 +38,7 @@ fn shape_of<R: RuleSet>(rules: &R, code: u32, first: u16) -> Shape
 // Writes the codes of the side's options, `count` of them, from place `from` on.
 fn append<R: RuleSet>(rules: &R, code: u32, side: Side, count: u8, codes: &mut [u32], from: usize)
     requires { from + count ≤ length codes.old }
-    ensures { (t : Tree) (ts : List Tree) → tree rules.now code ≡ Some t → count ≡ length (optionsOf t side) → length ts ≡ from → Stand (tree rules.now) codes.old ts → Stand (tree rules.now) codes.new (ts ++ optionsOf t side) }
+    ensures { (t : Tree) (ts : List Tree) → R.tree rules.now code ≡ Some t → count ≡ length (options_of t side) → length ts ≡ from → Stand (R.tree rules.now) codes.old ts → Stand (R.tree rules.now) codes.new (ts ++ options_of t side) }
 {
     for k in 0..count {
         if let Some(next) = rules.option(code, side, k) {
@@ -55,11 +55,11 @@ pub fn spread<R: RuleSet>(
     free: &mut [Shape],
     codes: &mut [u32],
 ) -> Option<usize>
-    requires known { known_in (tree rules.now code) ≡ true }
+    requires known { known_in (R.tree rules.now code) ≡ true }
     requires few { length free.old ≤ row_limit }
     requires scratch { length free.old ≤ length codes.old }
     ensures taken { Taken free.old result }
-    ensures rows { (t : Tree) → tree rules.now code ≡ Some t → SpreadInto t free.old result free.new }
+    ensures rows { (t : Tree) → R.tree rules.now code ≡ Some t → SpreadInto t free.old result free.new }
 {
     if free.len() == 0 {
         return None;

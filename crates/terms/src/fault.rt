@@ -1,5 +1,5 @@
 ghost use Rattle.std.specs.Prelude.{◌≡◌};
-ghost use Rattle.terms.specs.Refusals.{number as number_of, layer as layerOf};
+ghost use Rattle.terms.specs.Refusals.{number as number_of, layer as layer_of};
 
 // Where a refusal comes from.
 #[derive(Clone, Copy, PartialEq, Eq, Debug)]
@@ -84,7 +84,7 @@ impl Refusal {
 
     // The layer that it comes from: the tens of its number say which.
     pub fn layer(self) -> Layer
-        ensures { result ≡ layerOf self }
+        ensures { result ≡ layer_of self }
     {
         match self.number() / 10 {
             1 => Layer::Text,

@@ -2,7 +2,7 @@ ghost use Rattle.std.specs.Prelude.{◌≡◌};
 ghost use Rattle.terms.specs.Sides.{own};
 ghost use Rattle.theory.specs.Trees.{Tree};
 ghost use Rattle.theory.specs.Fair.{Fair};
-ghost use Rattle.theory.specs.Walls.{wall as wallOf};
+ghost use Rattle.theory.specs.Walls.{wall as wall_of};
 ghost use Rattle.thermographs.specs.Figures.{Tells};
 ghost use Rattle.thermographs.specs.Laws.{FiguresTell, ToldIsRead};
 
@@ -19,7 +19,7 @@ pub fn figures_tell_walls()
 // A wall of a row at any tax, for Left as the books have it.
 pub fn wall_at(row: Figures, corners: &[u32], side: Side, t: u32) -> i32
     requires { (x : Tree) × Fair x × Tells corners.now row x }
-    ensures { (x : Tree) → Fair x → Tells corners.now row x → result ≡ own side (wallOf x side t) }
+    ensures { (x : Tree) → Fair x → Tells corners.now row x → result ≡ own side (wall_of x side t) }
 {
     let wall = row.wall(side);
     let begin = wall.begin as usize;

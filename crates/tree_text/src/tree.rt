@@ -1,7 +1,7 @@
 ghost use Rattle.std.specs.Prelude.{◌≡◌, ℕ, ◌+◌, ◌-◌, ◌<◌, ◌≤◌, List, ◌++◌, length};
 ghost use Rattle.lines.specs.Seen.{seen, gave};
 ghost use Rattle.lines.specs.Lines.{entry};
-ghost use Rattle.trees.specs.Written.{blank as blankRow};
+ghost use Rattle.trees.specs.Written.{blank as blank_row};
 ghost use Rattle.tree_text.specs.Rows.{row_count, picked};
 ghost use Rattle.tree_text.specs.Written.{row_at, Content, Blank, ReadRows, ReadPart, ReadTree};
 ghost use Rattle.tree_text.specs.Seen.{listed, as_row, picks_in};

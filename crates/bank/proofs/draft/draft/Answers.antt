@@ -46,15 +46,15 @@ figure_rows-requires g c =
       room = (omega arith, c.requires.corners);
     }
 
-pub returns-in-default-figure_rows : goal.returns-in-default-figure_rows
-returns-in-default-figure_rows g c t e =
+pub returns-in_default-figure_rows : goal.returns-in_default-figure_rows
+returns-in_default-figure_rows g c t e =
     let o = g.R.RuleSet.tree c.args.rules.now c.args.code in
     let s = c.in-Some.ensures.rows t e in
     let is = taken_rows t c.args.shapes.now c.spread.new.free c.in-Some.rows s in
     let l = lawful_of o t e (g.met.R.RuleSet.lawful c.args.rules.now c.args.code) in
     let low = sym (c.if-too_high.ensures t is) in
     let warm = sym (c.if-any_cold.ensures t is) in
-    let f = c.in-default-figure_rows.ensures t (fair_of t l low warm) is in
+    let f = c.in_default-figure_rows.ensures t (fair_of t l low warm) is in
     lacks_corners (length c.args.shapes.now) (length c.args.corners.now) t (omega (arith, s.0, s.1)) low warm (omega (arith, f.many))
 
 pub returns : goal.returns

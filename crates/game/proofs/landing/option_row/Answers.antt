@@ -4,9 +4,9 @@ use Rattle.bank.specs.Contents.{trees}
 use Rattle.game.proofs.Landings.{few_rows, ended_row, no_option, option_at}
 use Rattle.game.proofs.landing.option_row.Goals as goal
 
-pub returns-in-default : goal.returns-in-default
-returns-in-default c =
-    ended_row (get_or (trees c.args.bank.now) c.args.part none) c.args.row c.args.side c.args.option c.shape_at-shape.result c.shape_at-shape.ensures c.in-default.not-Open
+pub returns-in_default : goal.returns-in_default
+returns-in_default c =
+    ended_row (get_or (trees c.args.bank.now) c.args.part none) c.args.row c.args.side c.args.option c.shape_at-shape.result c.shape_at-shape.ensures c.in_default.not-Open
 
 pub returns-then-option-count : goal.returns-then-option-count
 returns-then-option-count c =

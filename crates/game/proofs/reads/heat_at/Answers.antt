@@ -15,10 +15,10 @@ returns-in-Open c =
     let kind = ap (λ (x : Shape). x.kind) c.shape_at.ensures in
     ap (λ (f : Figures). Some f.temperature) c.figures_at.ensures ∙ heat_open (first (get_or ts p none) i) (position ts p i) (sym kind ∙ c.in-Open.is)
 
-pub returns-in-default : goal.returns-in-default
-returns-in-default c =
+pub returns-in_default : goal.returns-in_default
+returns-in_default c =
     let ts = trees c.args.bank.now in
     let p = c.args.part in
     let i = c.args.row in
     let kind = ap (λ (x : Shape). x.kind) c.shape_at.ensures in
-    heat_shut (first (get_or ts p none) i) (position ts p i) (λ e. c.in-default.not-Open (kind ∙ e))
+    heat_shut (first (get_or ts p none) i) (position ts p i) (λ e. c.in_default.not-Open (kind ∙ e))

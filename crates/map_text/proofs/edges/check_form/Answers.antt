@@ -29,10 +29,10 @@ pub returns-in_err-read_next-2 : goal.returns-in_err-read_next-2
 returns-in_err-read_next-2 c =
     let p = err_from_is_err_and c.from_residual-in_err-read_next-2.result c.from_residual-in_err-read_next-2.ensures.1 in
     rw (p.1, p.2)
-    (form_stops _ c.args.text.now c.loop-piece.rest.now _ _ c.loop-piece.invariant.1 (pieces_last c.loop-piece.rest.now c.in-default.ensures) c.args.line _ c.in_err-read_next-2.ensures)
+    (form_stops _ c.args.text.now c.loop-piece.rest.now _ _ c.loop-piece.invariant.1 (pieces_last c.loop-piece.rest.now c.in_default.ensures) c.args.line _ c.in_err-read_next-2.ensures)
 
 pub returns : goal.returns
 returns c =
     let s = c.in_ok-read_next-2.ensures in
     ap (λ t. formed t c.args.line)
-    (form_more _ c.args.text.now c.loop-piece.rest.now _ _ c.loop-piece.invariant.1 (pieces_last c.loop-piece.rest.now c.in-default.ensures) s.0 s.1)
+    (form_more _ c.args.text.now c.loop-piece.rest.now _ _ c.loop-piece.invariant.1 (pieces_last c.loop-piece.rest.now c.in_default.ensures) s.0 s.1)

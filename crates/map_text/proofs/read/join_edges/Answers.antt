@@ -25,4 +25,4 @@ pub returns : goal.returns
 returns c es q =
     let w = c.loop-piece.rest.now in
     let i = c.loop-piece.invariant es q in
-    i.2 _ _ (turn_last _ w i.0 (pieces_last w c.in-default.ensures) i.1 c.args.line c.loop-piece.map _ _ c.join_edge-2.ensures)
+    i.2 _ _ (turn_last _ w i.0 (pieces_last w c.in_default.ensures) i.1 c.args.line c.loop-piece.map _ _ c.join_edge-2.ensures)

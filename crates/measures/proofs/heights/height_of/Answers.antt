@@ -15,5 +15,5 @@ overflow_add-result c =
 pub returns-in-Open : goal.returns-in-Open
 returns-in-Open c = open_height c.args.shape c.args.heights.now _ _ c.in-Open.is (omega arith) (omega arith) (ap (λ n. 1 + n) c.tallest.ensures)
 
-pub returns-in-default : goal.returns-in-default
-returns-in-default c = other_height c.args.shape c.args.heights.now c.in-default.not-Open
+pub returns-in_default : goal.returns-in_default
+returns-in_default c = other_height c.args.shape c.args.heights.now c.in_default.not-Open

@@ -26,8 +26,8 @@ returns-in-Open c =
           c.in-Open.is c.start-from.ensures (ap (λ n. from + n) c.count.ensures) inside c.requires.small c.best.ensures.best f x is noted);
     }
 
-pub returns-in-default : goal.returns-in-default
-returns-in-default c =
+pub returns-in_default : goal.returns-in_default
+returns-in_default c =
     let v : ℤ = own c.args.side c.args.shape.score in
     let small : Score v = own_score c.args.side c.args.shape.score c.requires.inside.score in
     let read : to_z w16 (of_z w16 c.args.shape.score) ≡ c.args.shape.score = omega (arith, ints, c.requires.inside.score.0, c.requires.inside.score.1) in
@@ -35,5 +35,5 @@ returns-in-default c =
     let same : to_z w16 (of_z w16 c.own.result) ≡ v = omega (arith, ints, small.0, small.1) in
     record {
       small = subst Score (sym same) small;
-      stop = λ f x e noted. same ∙ other_stop c.args.shape c.args.side c.args.others.now c.in-default.not-Open f x e noted;
+      stop = λ f x e noted. same ∙ other_stop c.args.shape c.args.side c.args.others.now c.in_default.not-Open f x e noted;
     }

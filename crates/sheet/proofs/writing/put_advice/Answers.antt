@@ -16,11 +16,11 @@ room-needed p k = omega (arith, line_length (codes "advice=") (written p ++ (44 
 
 pub put_line-requires : goal.put_line-requires
 unfolding advice_line
-put_line-requires c = room_as (ap advice_line c.in-default.is) c.requires
+put_line-requires c = room_as (ap advice_line c.in_default.is) c.requires
 
-pub returns-in-default : goal.returns-in-default
+pub returns-in_default : goal.returns-in_default
 unfolding advice_line
-returns-in-default c = adds_as (ap advice_line (sym c.in-default.is)) c.put_line.ensures
+returns-in_default c = adds_as (ap advice_line (sym c.in_default.is)) c.put_line.ensures
 
 pub put-requires : goal.put-requires
 put-requires c =

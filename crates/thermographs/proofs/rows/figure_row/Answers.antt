@@ -26,14 +26,14 @@ returns-in-Open c = record {
 pub ended_row-requires : goal.ended_row-requires
 ended_row-requires c =
     let (f, x, h) = c.requires.ready in
-    let s = (ready_ended _ c.args.figures.now c.args.shape f x h c.in-default.not-Open).1 in
+    let s = (ready_ended _ c.args.figures.now c.args.shape f x h c.in_default.not-Open).1 in
     ((omega (arith, ints, s.0, s.1), omega (arith, ints, s.0, s.1)), omega (arith, c.requires.room.0, c.requires.room.1))
 
-pub returns-in-default : goal.returns-in-default
-returns-in-default c = record {
+pub returns-in_default : goal.returns-in_default
+returns-in_default c = record {
   kept = refl;
   row = λ f x h.
-      let k = ready_ended _ c.args.figures.now c.args.shape f x h c.in-default.not-Open in
+      let k = ready_ended _ c.args.figures.now c.args.shape f x h c.in_default.not-Open in
       let read : to_z w16 (of_z w16 c.args.shape.score) ≡ c.args.shape.score = omega (arith, ints, k.1.0, k.1.1) in
       subst (λ (y : Tree). RowInto c.args.used y c.args.corners.now (Some c.ended_row.result) c.args.corners.now) (sym k.0)
       (ended_row c.args.shape.score c.args.used c.ended_row.result c.args.corners.now

@@ -23,16 +23,16 @@ figure_row-requires c =
       room = (omega (arith, P.room), omega (arith, c.requires.room.1));
     }
 
-pub returns-in-default : goal.returns-in-default
-returns-in-default c t fair e =
+pub returns-in_default : goal.returns-in_default
+returns-in_default c t fair e =
     let i = c.loop-i.i - 1 in
     let many : length c.args.shapes.now ≡ size t = ap length e ∙ length_shapes t in
     let next : c.loop-i.i ≡ suc i = omega arith in
     let lt : i < size t = omega arith in
     let P = subst (λ (j : ℕ). Pass t c.args.used c.args.figures.now c.args.corners.now c.loop-i.figures c.loop-i.corners c.loop-i.n j) next (c.loop-i.invariant t fair e) in
     pass_short t c.args.used c.args.figures.now c.args.corners.now c.loop-i.figures c.loop-i.corners c.loop-i.n i P lt c.requires.room.0 (omega arith)
-    c.figure_row.new.corners c.in-default.ensures.kept
-    (c.in-default.ensures.row (first t i) (row t i)
+    c.figure_row.new.corners c.in_default.ensures.kept
+    (c.in_default.ensures.row (first t i) (row t i)
     (pass_ready t c.args.used c.args.figures.now c.args.corners.now c.loop-i.figures c.loop-i.corners c.loop-i.n i P fair lt c.args.shapes.now _ e))
 
 pub loop-i-preserved : goal.loop-i-preserved

@@ -41,12 +41,12 @@ draw-requires c =
       below = c.meet-meeting.ensures.low;
     }
 
-pub returns-in-default : goal.returns-in-default
-returns-in-default c = record {
-  kept = c.in-default.ensures.fits;
+pub returns-in_default : goal.returns-in_default
+returns-in_default c = record {
+  kept = c.in_default.ensures.fits;
   row = λ L R O.
       let M = met c.args.used c.args.corners.now c.args.lefts.now c.args.rights.now c.meet-meeting.result c.meet-meeting.ensures in
-      let w = left_wrote c.args.used c.args.corners.now c.args.lefts.now c.args.rights.now c.meet-meeting.result M L R O None c.draw.new.corners c.in-default.ensures.wrote in
+      let w = left_wrote c.args.used c.args.corners.now c.args.lefts.now c.args.rights.now c.meet-meeting.result M L R O None c.draw.new.corners c.in_default.ensures.wrote in
       omega (arith, w, corners_many (branch L R));
 }
 
@@ -61,16 +61,16 @@ draw-requires-2 c =
       below = c.meet-meeting.ensures.low;
     }
 
-pub returns-in-default-draw : goal.returns-in-default-draw
-returns-in-default-draw c =
+pub returns-in_default-draw : goal.returns-in_default-draw
+returns-in_default-draw c =
     let fits = c.in-Some.ensures.fits in
     record {
-      kept = used-stay c.args.used c.in-Some.mid c.draw-2.new.corners c.draw.new.corners c.args.corners.now fits.1 c.in-default-draw.ensures.fits fits.0;
+      kept = used-stay c.args.used c.in-Some.mid c.draw-2.new.corners c.draw.new.corners c.args.corners.now fits.1 c.in_default-draw.ensures.fits fits.0;
       row = λ L R O.
           let M = met c.args.used c.args.corners.now c.args.lefts.now c.args.rights.now c.meet-meeting.result c.meet-meeting.ensures in
           let v = left_wrote c.args.used c.args.corners.now c.args.lefts.now c.args.rights.now c.meet-meeting.result M L R O (Some c.in-Some.mid) c.draw.new.corners c.in-Some.ensures.wrote in
           let w = right_wrote c.args.used c.args.corners.now c.args.lefts.now c.args.rights.now c.meet-meeting.result M L R O c.in-Some.mid None
-          c.draw.new.corners c.draw-2.new.corners fits.0 c.in-default-draw.ensures.wrote in
+          c.draw.new.corners c.draw-2.new.corners fits.0 c.in_default-draw.ensures.wrote in
           omega (arith, v.0, w, corners_many (branch L R));
     }
 

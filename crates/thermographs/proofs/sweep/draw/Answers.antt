@@ -24,18 +24,18 @@ best_piece-piece-requires c =
       below = omega (arith, c.requires.below, c.loop-t.invariant.low);
     }
 
-pub returns-in-default : goal.returns-in-default
-returns-in-default c =
+pub returns-in_default : goal.returns-in_default
+returns-in_default c =
     let f : ℕ → ℤ = best c.args.side (take c.args.used c.args.corners.now) c.args.options.now in
     let e = used-kept c.args.used c.args.at c.loop-t.corners c.args.corners.now c.requires.room.0 c.loop-t.invariant.kept in
     let lin : Linear f c.loop-t.t c.best_piece-piece.result =
     subst (λ (s : List ℕ). Linear (best c.args.side s c.args.options.now) c.loop-t.t c.best_piece-piece.result) e c.best_piece-piece.ensures.linear in
     record {
       fits = drawn_kept f c.args.temperature c.args.at c.args.corners.now c.loop-t.corners c.loop-t.trail c.loop-t.t c.loop-t.invariant
-          (not c.best_piece-piece.result.slope) c.loop-t.t c.turn.new.out c.in-default.ensures.out;
+          (not c.best_piece-piece.result.slope) c.loop-t.t c.turn.new.out c.in_default.ensures.out;
       wrote = drawn_short f c.args.temperature c.args.at c.args.corners.now c.loop-t.corners c.loop-t.trail c.loop-t.t c.loop-t.invariant
           c.best_piece-piece.result (min c.best_piece-piece.result.until c.args.temperature) c.turn.new.out lin (omega (arith, c.best_piece-piece.ensures.ahead))
-          (omega arith) (omega arith) c.in-default.ensures.trail;
+          (omega arith) (omega arith) c.in_default.ensures.trail;
     }
 
 pub loop-t-preserved : goal.loop-t-preserved
@@ -48,14 +48,14 @@ loop-t-preserved c =
     c.best_piece-piece.result c.min-t.result c.in-Some.next c.turn.new.out lin (omega (arith, c.best_piece-piece.ensures.ahead)) (omega arith) (omega arith)
     c.in-Some.ensures.trail c.in-Some.ensures.out
 
-pub returns-in-default-turn : goal.returns-in-default-turn
-returns-in-default-turn c =
+pub returns-in_default-turn : goal.returns-in_default-turn
+returns-in_default-turn c =
     let f : ℕ → ℤ = best c.args.side (take c.args.used c.args.corners.now) c.args.options.now in
     record {
       fits = drawn_kept f c.args.temperature c.args.at c.args.corners.now c.loop-t.corners c.loop-t.trail c.loop-t.t c.loop-t.invariant
-          false c.args.temperature c.turn-2.new.out c.in-default-turn.ensures.out;
+          false c.args.temperature c.turn-2.new.out c.in_default-turn.ensures.out;
       wrote = drawn_short_all f c.args.temperature c.args.at c.args.corners.now c.loop-t.corners c.loop-t.trail c.loop-t.t c.loop-t.invariant
-          c.turn-2.new.out (omega (arith, c.loop-t.invariant.low)) c.in-default-turn.ensures.trail;
+          c.turn-2.new.out (omega (arith, c.loop-t.invariant.low)) c.in_default-turn.ensures.trail;
     }
 
 pub returns : goal.returns

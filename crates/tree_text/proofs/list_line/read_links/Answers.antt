@@ -47,7 +47,7 @@ returns-then-used-eq-MOST-2 c =
     let xs = take c.loop-piece.used c.loop-piece.list in
     let f = upto c.args.last in
     let n : length xs ≡ 16 = omega (arith, length-take c.loop-piece.used c.loop-piece.list) in
-    ap (λ o. judged o c.args.line) (sym (begun_full xs f c.loop-piece.rest.now [] n) ∙ (ap (λ ls. few (begun xs (all_of f ls))) (sym (pieces_last c.loop-piece.rest.now c.in-default.ensures)) ∙ c.loop-piece.invariant.2))
+    ap (λ o. judged o c.args.line) (sym (begun_full xs f c.loop-piece.rest.now [] n) ∙ (ap (λ ls. few (begun xs (all_of f ls))) (sym (pieces_last c.loop-piece.rest.now c.in_default.ensures)) ∙ c.loop-piece.invariant.2))
 
 pub returns-in_err-list-2 : goal.returns-in_err-list-2
 returns-in_err-list-2 c =
@@ -59,7 +59,7 @@ returns-in_err-list-2 c =
     (ap Err j.1
     ∙ ap (λ o. judged o c.args.line)
     (ap few (sym (begun_stops xs f c.loop-piece.rest.now [] j.0))
-    ∙ (ap (λ ls. few (begun xs (all_of f ls))) (sym (pieces_last c.loop-piece.rest.now c.in-default.ensures)) ∙ c.loop-piece.invariant.2)))
+    ∙ (ap (λ ls. few (begun xs (all_of f ls))) (sym (pieces_last c.loop-piece.rest.now c.in_default.ensures)) ∙ c.loop-piece.invariant.2)))
 
 pub returns : goal.returns
 returns c =
@@ -70,4 +70,4 @@ returns c =
     ∙ ap (λ o. judged o c.args.line)
     (sym (few_begun (xs ++ (c.in_ok-list-2.field-0 ∷ [])) f n)
     ∙ (ap few (sym (begun_more xs f c.loop-piece.rest.now [] _ (sym (judged_ok _ c.args.line _ (sym c.in_ok-list-2.ensures)))))
-    ∙ (ap (λ ls. few (begun xs (all_of f ls))) (sym (pieces_last c.loop-piece.rest.now c.in-default.ensures)) ∙ c.loop-piece.invariant.2)))
+    ∙ (ap (λ ls. few (begun xs (all_of f ls))) (sym (pieces_last c.loop-piece.rest.now c.in_default.ensures)) ∙ c.loop-piece.invariant.2)))

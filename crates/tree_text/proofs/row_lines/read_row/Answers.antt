@@ -28,8 +28,8 @@ returns-in-Left c =
     let w = line_fork c.args.last c.args.room c.args.place (seen c.args.reader.now) c.in_ok-line.line c.in_ok-line.number (seen c.next_line.new.self) c.in-Left.value c.in_ok-line.ensures c.in-Left.is in
     record { row = c.fork_of.ensures.row ∙ w; room = c.fork_of.ensures.room }
 
-pub returns-in-default : goal.returns-in-default
-returns-in-default c = record {
-  row = line_wrong c.args.last c.args.room c.args.place (seen c.args.reader.now) c.in_ok-line.line c.in_ok-line.number (seen c.next_line.new.self) c.in_ok-line.ensures c.in-default.not-End c.in-default.not-Left;
+pub returns-in_default : goal.returns-in_default
+returns-in_default c = record {
+  row = line_wrong c.args.last c.args.room c.args.place (seen c.args.reader.now) c.in_ok-line.line c.in_ok-line.number (seen c.next_line.new.self) c.in_ok-line.ensures c.in_default.not-End c.in_default.not-Left;
   room = tt;
 }

@@ -6,12 +6,12 @@ use Rattle.trees.proofs.lent.all_above.Goals as goal
 
 pub returns-then-row-own : goal.returns-then-row-own
 returns-then-row-own c =
-    sym (above_stop c.args.own_val c.args.end c.args.picks.now c.loop-pick.pick-index c.loop-pick-test.true c.then-row-own.either) ∙ c.loop-pick.invariant
+    sym (above_stop c.args.own c.args.end c.args.picks.now c.loop-pick.pick-index c.loop-pick-test.true c.then-row-own.either) ∙ c.loop-pick.invariant
 
 pub loop-pick-preserved : goal.loop-pick-preserved
 loop-pick-preserved c =
-    above_more c.args.own_val c.args.end c.args.picks.now c.loop-pick.pick-index c.loop-pick-test.true c.if-row-own.false c.if-row-end.false ∙ c.loop-pick.invariant
+    above_more c.args.own c.args.end c.args.picks.now c.loop-pick.pick-index c.loop-pick-test.true c.if-row-own.false c.if-row-end.false ∙ c.loop-pick.invariant
 
 pub returns : goal.returns
 returns c =
-    sym (at_drop_all (all_above c.args.own_val c.args.end) c.args.picks.now c.loop-pick.pick-index (omega arith)) ∙ c.loop-pick.invariant
+    sym (at_drop_all (all_above c.args.own c.args.end) c.args.picks.now c.loop-pick.pick-index (omega arith)) ∙ c.loop-pick.invariant

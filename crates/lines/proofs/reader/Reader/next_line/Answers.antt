@@ -6,14 +6,14 @@ use Rattle.lines.proofs.Splits.{cut_shorter}
 use Rattle.lines.proofs.Fields.{next_no_end, next_no_value, next_keyed}
 use Rattle.lines.proofs.reader.Reader.next_line.Goals as goal
 
-pub returns-in-default : goal.returns-in-default
-returns-in-default c = next_no_end (seen c.args.self.now) c.in-default.ensures
+pub returns-in_default : goal.returns-in_default
+returns-in_default c = next_no_end (seen c.args.self.now) c.in_default.ensures
 
-pub returns-in-default-cut : goal.returns-in-default-cut
-returns-in-default-cut c = next_no_value (seen c.args.self.now) _ _ c.in-Some.ensures c.in-default-cut.ensures
+pub returns-in_default-cut : goal.returns-in_default-cut
+returns-in_default-cut c = next_no_value (seen c.args.self.now) _ _ c.in-Some.ensures c.in_default-cut.ensures
 
-pub returns-in-default-key_named : goal.returns-in-default-key_named
-returns-in-default-key_named c = next_keyed (seen c.args.self.now) _ _ _ _ _ c.in-Some.ensures c.in-Some-cut.ensures c.in-default-key_named.ensures
+pub returns-in_default-key_named : goal.returns-in_default-key_named
+returns-in_default-key_named c = next_keyed (seen c.args.self.now) _ _ _ _ _ c.in-Some.ensures c.in-Some-cut.ensures c.in_default-key_named.ensures
 
 pub invariant-of-self : goal.invariant-of-self
 invariant-of-self c = (omega (arith, c.args.self.now.short, cut_shorter 10 c.args.self.now.rest.now _ _ c.in-Some.ensures), tt)

@@ -5,4 +5,4 @@ use Rattle.snort.specs.Play.{legal}
 use Rattle.snort.proofs.map.Snort.legal.Given as goal
 
 abbrev pub invariant-loop-k : goal.invariant-loop-k
-invariant-loop-k l = l.mask ≡ mask_of (legal l.self.points (joined l.self.near) l.own_val l.far) l.k
+invariant-loop-k l = l.mask ≡ mask_of (legal l.self.points (joined l.self.near) l.own l.far) l.k

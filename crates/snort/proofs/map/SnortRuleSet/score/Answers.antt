@@ -4,8 +4,8 @@ use Rattle.snort.specs.Maps.{joined}
 use Rattle.snort.specs.Codes.{answer_unknown_score, answer_open_score, answer_score, ours_few, theirs_few}
 use Rattle.snort.proofs.map.SnortRuleSet.score.Goals as goal
 
-pub returns-in-default : goal.returns-in-default
-returns-in-default c = answer_unknown_score c.args.self.now.points (joined c.args.self.now.near) c.args.self.now.size.1 c.args.self.now.symmetric c.args.code c.in-default.ensures
+pub returns-in_default : goal.returns-in_default
+returns-in_default c = answer_unknown_score c.args.self.now.points (joined c.args.self.now.near) c.args.self.now.size.1 c.args.self.now.symmetric c.args.code c.in_default.ensures
 
 pub returns-then-right-ne0 : goal.returns-then-right-ne0
 returns-then-right-ne0 c =

@@ -10,4 +10,4 @@ slice_bounds-all_above-end c =
 
 pub returns : goal.returns
 returns c =
-    lawful_part c.args.self.now.rows.now c.args.self.now.picks.now (length (take row_limit c.args.self.now.rows.now)) c.args.own_val c.args.list c.all_above.result (omega arith) (omega arith) (omega arith) (rw c.row_count.ensures at c.all_above.ensures)
+    lawful_part c.args.self.now.rows.now c.args.self.now.picks.now (length (take row_limit c.args.self.now.rows.now)) c.args.own c.args.list c.all_above.result (omega arith) (omega arith) (omega arith) (rw c.row_count.ensures at c.all_above.ensures)
