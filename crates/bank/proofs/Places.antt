@@ -1,5 +1,5 @@
 -- What a seating leaves in the columns of a bank: the part behind the others, or all as it was.
-use Rattle.std.proofs.Common.{◌≡◌, ℕ, ◌+◌, ◌-◌, ◌<◌, ◌≤◌, List, [], ◌∷◌, ◌++◌, length, get_or, take, drop, set, replicate, Some, None, Ok, Err, Option, Result, sym, refl, ap, ◌∙◌, subst, inl, inr, not-suc-le-zero, arith}
+use Rattle.std.proofs.Common.{◌≡◌, ℕ, ◌+◌, ◌-◌, ◌<◌, ◌≤◌, List, [], ◌∷◌, ◌++◌, length, get_or, take, drop, set, replicate, Some, Ok, Err, Option, Result, sym, refl, ap, ◌∙◌, subst, inl, inr, not-suc-le-zero, arith}
 use lib.ListN.{length-replicate}
 use Rattle.std.specs.List.{flat_map}
 use Rattle.std.proofs.lemmas.Bool.{cases_lt}
@@ -9,14 +9,13 @@ use Rattle.terms.specs.declared.fault.Refusal.{Refusal}
 use Rattle.theory.specs.Trees.{Tree, size}
 use Rattle.spreading.specs.Shapes.{row_limit, shapes_of, blank as blank-shape}
 use Rattle.spreading.specs.declared.shape.Shape.{Shape}
-use Rattle.spreading.proofs.Shapes.{length_shapes}
 use Rattle.thermographs.specs.Figures.{corner_limit, strip_of, blank}
 use Rattle.thermographs.specs.declared.figures.Figures.{Figures}
 use Rattle.encoding.specs.Columns.{part_limit, Column, Holds}
 use Rattle.encoding.proofs.Columns.{put, column_none, column_more, column_wiped}
 use Rattle.encoding.proofs.Holding.{held_more}
 use Rattle.bank.specs.Held.{part_figures, Held, Within}
-use Rattle.bank.specs.Drafts.{lacks, onto, Drafted, FillInto}
+use Rattle.bank.specs.Drafts.{lacks, onto, FillInto}
 use Rattle.bank.specs.Placing.{cause_by, Judged, Placed}
 use Rattle.bank.specs.declared.columns.Columns.{Columns}
 use Rattle.bank.specs.declared.draft.Extent.{Extent}
