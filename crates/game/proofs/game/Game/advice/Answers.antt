@@ -16,8 +16,8 @@ returns-in_err-part c =
     let p = err_from_is_err_and c.from_residual.result c.from_residual.ensures.1 in
     rw (p.1, p.2) (record { answer = refused; promise = advice_told ts g.side g.play g.told (Err n) refused })
 
-pub offset-bounds-self-part : goal.offset-bounds-self-part
-offset-bounds-self-part c =
+pub offset_bounds-self-part : goal.offset_bounds-self-part
+offset_bounds-self-part c =
     let g = c.args.self.now in
     let p = c.in_ok-part.part in
     let lt = advice_there (trees g.bank.now) g.side g.play g.told c.hottest_part-hottest.result p c.in_ok-part.ensures c.hottest_part-hottest.ensures in

@@ -19,7 +19,7 @@ invariant_of-result c =
     let b = c.args.bank.now in
     let e = c.greatest_heat-hottest.ensures ∙ ap hottest_of (present_first part_limit (trees b) (few_parts b)) in
     let wide : length (trees b) ≤ length c.open.result.rows = omega (arith, ap length c.open.ensures.rows, length-replicate {A = ℕ} part_limit 0, few_parts b) in
-    (wide, (subst (OnRows (trees b)) (sym c.open.ensures.rows) (first_rows part_limit (trees b)), (opened_storied b c.args.side c.args.first c.greatest_heat-hottest.result c.open.result c.open.ensures.game e, tt)))
+    record { enough = wide; on_rows = subst (OnRows (trees b)) (sym c.open.ensures.rows) (first_rows part_limit (trees b)); told = opened_storied b c.args.side c.args.first c.greatest_heat-hottest.result c.open.result c.open.ensures.game e }
 
 pub returns : goal.returns
 returns c =

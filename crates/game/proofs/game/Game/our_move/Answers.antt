@@ -19,7 +19,11 @@ invariant_of-self c =
     let r = c.our_move.result in
     let e = c.our_move.ensures in
     let wide = c.args.self.now.enough in
-    (long_after (length ts) y.rows z.rows l r wide e.rows, (rows_after_lem ts y.rows z.rows l r wide e.rows c.landing-landing.ensures.row c.args.self.now.on_rows, (move_storied ts s y z l r p k e.game c.landing-landing.ensures.leads c.args.self.now.told, tt)))
+    record {
+      enough = long_after (length ts) y.rows z.rows l r wide e.rows;
+      on_rows = rows_after_lem ts y.rows z.rows l r wide e.rows c.landing-landing.ensures.row c.args.self.now.on_rows;
+      told = move_storied ts s y z l r p k e.game c.landing-landing.ensures.leads c.args.self.now.told;
+    }
 
 pub returns : goal.returns
 returns c =

@@ -21,7 +21,11 @@ invariant_of-self c =
     let leads = subst (λ s. Leads ts s y.rows p k l) c.other.ensures c.landing-landing.ensures.leads in
     let e = c.their_reply.ensures in
     let wide = c.args.self.now.enough in
-    (long_after (length ts) y.rows z.rows l r wide e.rows, (rows_after_lem ts y.rows z.rows l r wide e.rows c.landing-landing.ensures.row c.args.self.now.on_rows, (reply_storied ts s y z l r p k e.game leads c.args.self.now.told, tt)))
+    record {
+      enough = long_after (length ts) y.rows z.rows l r wide e.rows;
+      on_rows = rows_after_lem ts y.rows z.rows l r wide e.rows c.landing-landing.ensures.row c.args.self.now.on_rows;
+      told = reply_storied ts s y z l r p k e.game leads c.args.self.now.told;
+    }
 
 pub returns : goal.returns
 returns c =
