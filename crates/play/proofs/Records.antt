@@ -12,7 +12,7 @@ use Rattle.encoding.specs.Columns.{part_limit}
 use Rattle.stories.specs.declared.turn.Turn.{Turn}
 use Rattle.stories.specs.declared.turn.Turn.TheVariants.{Ours, Theirs, Over}
 use Rattle.stories.specs.Calls.{move, reply}
-use Rattle.stories.specs.Game.{Game, any_open, turn_to, turn_of, moved, hotter, cooled, replied, unless_refused, step, our_pick, their_pick, opening}
+use Rattle.stories.specs.Game.{Game, any_open, turn_to, turn_of, moved, hotter, cooled, replied, unless_refused, step, our_pick, their_pick}
 use Rattle.stories.proofs.Places.{none_some, some_same}
 use Rattle.stories.proofs.Moves.{shut_cool}
 use Rattle.stories.proofs.Fits.{state}

@@ -27,7 +27,7 @@ no_cause held x e l =
     let warmth : Option Refusal = cond (cold x) (Some ColdPosition) corners in
     let heights : Option Refusal = cond (ltb greatest_height (height x)) (Some TooHigh) warmth in
     let a = next (leb part_limit (length held)) PartsFull (misfit held x) e in
-    let b = next (ltb row_limit (sizes held + size x)) RowsFull heights a.1 in
+    let b = next _ RowsFull heights a.1 in
     let c = next (ltb greatest_height (height x)) TooHigh warmth b.1 in
     let d = next (cold x) ColdPosition corners c.1 in
     fair x l (cold_warm x d.0) (nltb→le greatest_height (height x) (subst (λ b. T (not b)) (sym c.0) tt))

@@ -12,8 +12,8 @@ pub loop-height-preserved : goal.loop-height-preserved
 loop-height-preserved c =
     let next = greatest_more c.args.heights.now c.loop-height.height-index (omega arith) in
     elim c.if-height-best.branch [
-      | then-height-best w ↦ omega (arith, w.best_is, w.if-height-best.true, c.loop-height.invariant)
-      | else-height-best w ↦ omega (arith, w.best_is, w.if-height-best.false, c.loop-height.invariant)
+      | then-height-best w ↦ omega (arith, w.best-is, w.if-height-best.true, c.loop-height.invariant)
+      | else-height-best w ↦ omega (arith, w.best-is, w.if-height-best.false, c.loop-height.invariant)
     ]
 
 pub returns : goal.returns

@@ -3,4 +3,7 @@ use mathlib.Core.Logic.{∥∥₁_elim, ∥∥₁_prop}
 use Rattle.bank.proofs.bank.Bank.wipe.Goals as goal
 
 pub invariant_of-self : goal.invariant_of-self
-invariant_of-self c = (c.clear.ensures.within, (∥∥₁_elim c.args.self.now.filled ∥∥₁_prop (λ p. ∣ ([], c.clear.ensures.held p.0 p.1) ∣₁), tt))
+invariant_of-self c = record {
+  within = c.clear.ensures.within;
+  filled = ∥∥₁_elim c.args.self.now.filled ∥∥₁_prop (λ p. ∣ ([], c.clear.ensures.held p.0 p.1) ∣₁);
+}

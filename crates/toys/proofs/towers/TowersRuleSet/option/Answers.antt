@@ -1,4 +1,4 @@
-use Rattle.std.proofs.Common.{◌≡◌, sym, refl, ap, ◌∙◌, arith}
+use Rattle.std.proofs.Common.{sym, ap, ◌∙◌}
 use Rattle.rules.specs.Meaning.{known_in}
 use Rattle.theory.specs.Trees.{at, options}
 use Rattle.toys.specs.Toys.{tower}

@@ -1,4 +1,3 @@
-use Rattle.std.proofs.Common.{arith}
 use Rattle.toys.specs.Towering.{score_tower}
 use Rattle.toys.proofs.towers.TowersRuleSet.score.Goals as goal
 
