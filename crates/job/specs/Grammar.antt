@@ -1,6 +1,6 @@
 -- What a job is: what it says, and the one text that says it.
 use Rattle.std.specs.Prelude.{ℕ, ◌≤◌, List, ◌∷◌, ◌++◌, length, codes}
-use Rattle.std.specs.List.{flat_map, AllByRecursion as All}
+use Rattle.std.specs.List.{flat_map, AllByRecursion}
 use Rattle.terms.specs.declared.side.Side.{Side}
 use Rattle.terms.specs.declared.side.Side.TheVariants.{Left, Right}
 use Rattle.terms.specs.declared.side.Mover.{Mover}
@@ -84,13 +84,13 @@ GoodPart lent room (tree rows) = GoodTree lent room rows
 GoodPart lent room (snort map) = GoodMap map
 
 abbrev pub GoodParts : ℕ → ℕ → List Part → Type 0
-GoodParts lent room ps = (length ps ≤ part_limit) × All (GoodPart lent room) ps
+GoodParts lent room ps = (length ps ≤ part_limit) × AllByRecursion (GoodPart lent room) ps
 
 abbrev pub GoodMove : Move → Type 0
 GoodMove m = (m.part ≤ last_part) × (m.option ≤ last_option)
 
 abbrev pub GoodMoves : List Move → Type 0
-GoodMoves ms = (length ms ≤ move_limit) × All GoodMove ms
+GoodMoves ms = (length ms ≤ move_limit) × AllByRecursion GoodMove ms
 
 abbrev pub GoodJob : ℕ → ℕ → Job → Type 0
 GoodJob lent room j = GoodParts lent room j.parts × GoodMoves j.moves

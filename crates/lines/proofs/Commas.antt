@@ -1,6 +1,6 @@
 -- A list with commas is read piece by piece, and just where it is written.
 use Rattle.std.proofs.Common.{◌≡◌, ℕ, ◌<◌, Bool, true, false, cond, eqb, List, [], ◌∷◌, ◌++◌, map, length, Some, None, Option, sym, refl, ap, ◌∙◌, subst, append_assoc, append-nil, arith}
-use Rattle.std.specs.List.{AllByRecursion as All}
+use Rattle.std.specs.List.{AllByRecursion}
 use Rattle.std.proofs.ByRecursion.{All-append}
 use Rattle.std.proofs.lemmas.Bool.{eqb-true, ne_eqb, cond-false}
 use Rattle.numbers.proofs.Written.{none_some}
@@ -41,11 +41,11 @@ pieces_more : (l r : List ℕ) → Clear 44 l → pieces (l ++ (44 ∷ r)) ≡ l
 pieces_more [] r c = refl
 pieces_more (x ∷ l) r c = cond-false (eqb x 44) _ _ (ne_eqb x 44 c.0) ∙ ap (onto_first x) (pieces_more l r c.1)
 
-pub pieces_commas : (l : List ℕ) (ls : List (List ℕ)) → All (Clear 44) (l ∷ ls) → pieces (commas (l ∷ ls)) ≡ l ∷ ls
+pub pieces_commas : (l : List ℕ) (ls : List (List ℕ)) → AllByRecursion (Clear 44) (l ∷ ls) → pieces (commas (l ∷ ls)) ≡ l ∷ ls
 pieces_commas l [] c = pieces_one l c.0
 pieces_commas l (m ∷ ms) c = pieces_more l (commas (m ∷ ms)) c.0 ∙ ap (λ ys. l ∷ ys) (pieces_commas m ms c.1)
 
-pub commas_clear : (ls : List (List ℕ)) → All (Clear 10) ls → Clear 10 (commas ls)
+pub commas_clear : (ls : List (List ℕ)) → AllByRecursion (Clear 10) ls → Clear 10 (commas ls)
 commas_clear [] c = tt
 commas_clear (l ∷ []) c = c.0
 commas_clear (l ∷ (m ∷ ms)) c = All-append (λ x. x ≡ 10 → ⊥) l (44 ∷ commas (m ∷ ms)) c.0 ((λ e. omega arith), commas_clear (m ∷ ms) c.1)
@@ -56,15 +56,15 @@ both_some None p xs e = none_some e
 both_some (Some a) None xs e = none_some e
 both_some (Some a) (Some more) xs e = (a, more, refl, refl, some_same e)
 
-pub all_of_sound : {A : Type 0} (f : List ℕ → Option A) (w : A → List ℕ) (G : A → Type 0) → ((v : List ℕ) (a : A) → f v ≡ Some a → G a × (v ≡ w a)) → (ls : List (List ℕ)) (xs : List A) → all_of f ls ≡ Some xs → All G xs × (ls ≡ map w xs)
-all_of_sound f w G h [] xs e = subst (λ ys. All G ys × ([] ≡ map w ys)) (some_same e) (tt, refl)
+pub all_of_sound : {A : Type 0} (f : List ℕ → Option A) (w : A → List ℕ) (G : A → Type 0) → ((v : List ℕ) (a : A) → f v ≡ Some a → G a × (v ≡ w a)) → (ls : List (List ℕ)) (xs : List A) → all_of f ls ≡ Some xs → AllByRecursion G xs × (ls ≡ map w xs)
+all_of_sound f w G h [] xs e = subst (λ ys. AllByRecursion G ys × ([] ≡ map w ys)) (some_same e) (tt, refl)
 all_of_sound f w G h (l ∷ ls) xs e =
     let b = both_some (f l) (all_of f ls) xs e in
     let p = h l b.0 b.2 in
     let q = all_of_sound f w G h ls b.1 b.3 in
-    subst (λ ys. All G ys × (l ∷ ls ≡ map w ys)) b.4 ((p.0, q.0), λ i. p.1 i ∷ q.1 i)
+    subst (λ ys. AllByRecursion G ys × (l ∷ ls ≡ map w ys)) b.4 ((p.0, q.0), λ i. p.1 i ∷ q.1 i)
 
-pub all_of_complete : {A : Type 0} (f : List ℕ → Option A) (w : A → List ℕ) (G : A → Type 0) → ((a : A) → G a → f (w a) ≡ Some a) → (xs : List A) → All G xs → all_of f (map w xs) ≡ Some xs
+pub all_of_complete : {A : Type 0} (f : List ℕ → Option A) (w : A → List ℕ) (G : A → Type 0) → ((a : A) → G a → f (w a) ≡ Some a) → (xs : List A) → AllByRecursion G xs → all_of f (map w xs) ≡ Some xs
 all_of_complete f w G h [] g = refl
 all_of_complete f w G h (x ∷ xs) g = λ i. both (h x g.0 i) (all_of_complete f w G h xs g.1 i)
 
@@ -74,12 +74,12 @@ some_pieces w v [] e = let s = pieces_some v in absurd (omega (arith, ap length 
 some_pieces w v (x ∷ xs) e = omega arith
 
 -- a list of such pieces, read whole: the texts of it are the lists that are not empty
-pub list_sound : {A : Type 0} (f : List ℕ → Option A) (w : A → List ℕ) (G : A → Type 0) → ((v : List ℕ) (a : A) → f v ≡ Some a → G a × (v ≡ w a)) → (v : List ℕ) (xs : List A) → all_of f (pieces v) ≡ Some xs → (0 < length xs) × All G xs × (v ≡ commas (map w xs))
+pub list_sound : {A : Type 0} (f : List ℕ → Option A) (w : A → List ℕ) (G : A → Type 0) → ((v : List ℕ) (a : A) → f v ≡ Some a → G a × (v ≡ w a)) → (v : List ℕ) (xs : List A) → all_of f (pieces v) ≡ Some xs → (0 < length xs) × AllByRecursion G xs × (v ≡ commas (map w xs))
 list_sound f w G h v xs e =
     let a = all_of_sound f w G h (pieces v) xs e in
     (some_pieces w v xs a.1, a.0, sym (commas_pieces v) ∙ ap commas a.1)
 
-pub list_complete : {A : Type 0} (f : List ℕ → Option A) (w : A → List ℕ) (G : A → Type 0) → ((a : A) → G a → f (w a) ≡ Some a) → (xs : List A) → 0 < length xs → All G xs → All (Clear 44) (map w xs) → all_of f (pieces (commas (map w xs))) ≡ Some xs
+pub list_complete : {A : Type 0} (f : List ℕ → Option A) (w : A → List ℕ) (G : A → Type 0) → ((a : A) → G a → f (w a) ≡ Some a) → (xs : List A) → 0 < length xs → AllByRecursion G xs → AllByRecursion (Clear 44) (map w xs) → all_of f (pieces (commas (map w xs))) ≡ Some xs
 list_complete f w G h [] z g c = absurd (omega arith)
 list_complete f w G h (x ∷ xs) z g c = ap (all_of f) (pieces_commas (w x) (map w xs) c) ∙ all_of_complete f w G h (x ∷ xs) g
 

@@ -1,7 +1,7 @@
 -- What it is to read just the texts that are written: `Whole` of a value, `Reads` of some lines.
 -- Each way of putting readings together has a law that puts their laws together.
 use Rattle.std.proofs.Common.{◌≡◌, ℕ, zero, suc, ◌+◌, Bool, true, false, cond, ◌⊎◌, List, [], ◌∷◌, ◌++◌, length, Some, None, Ok, Err, codes, Option, Result, sym, refl, ap, ◌∙◌, subst, inl, inr, append_assoc, append-nil, arith}
-use Rattle.std.specs.List.{flat_map, AllByRecursion as All}
+use Rattle.std.specs.List.{flat_map, AllByRecursion}
 use Rattle.std.proofs.lemmas.Bool.{cond-true, cond-false}
 use Rattle.terms.specs.declared.fault.Fault.{Fault}
 use Rattle.numbers.specs.Numbers.{judged}
@@ -62,32 +62,32 @@ reads_as p v w G H same to from h = record {
 }
 
 -- the same again and again
-pub times_reads : {A : Type 0} (p : Reading A) (w : A → List ℕ) (Good : A → Type 0) → Reads p w Good → (n : ℕ) → Reads (times n p) (flat_map w) (λ xs. (length xs ≡ n) × All Good xs)
+pub times_reads : {A : Type 0} (p : Reading A) (w : A → List ℕ) (Good : A → Type 0) → Reads p w Good → (n : ℕ) → Reads (times n p) (flat_map w) (λ xs. (length xs ≡ n) × AllByRecursion Good xs)
 times_reads {A} p w Good h zero = record { sound = sound; complete = complete }
   where
-    sound : (s : State) (xs : List A) (t : State) → done [] s ≡ Ok (xs, t) → ((length xs ≡ 0) × All Good xs) × (s.rest ≡ flat_map w xs ++ t.rest)
+    sound : (s : State) (xs : List A) (t : State) → done [] s ≡ Ok (xs, t) → ((length xs ≡ 0) × AllByRecursion Good xs) × (s.rest ≡ flat_map w xs ++ t.rest)
     sound s xs t e =
         let q = ok_same e in
-        subst (λ ys. ((length ys ≡ 0) × All Good ys) × (s.rest ≡ flat_map w ys ++ t.rest)) (ap (λ p. p.0) q) ((refl, tt), ap (λ p. p.1.rest) q)
+        subst (λ ys. ((length ys ≡ 0) × AllByRecursion Good ys) × (s.rest ≡ flat_map w ys ++ t.rest)) (ap (λ p. p.0) q) ((refl, tt), ap (λ p. p.1.rest) q)
 
-    complete : (xs : List A) (r : List ℕ) (n : ℕ) → (length xs ≡ 0) × All Good xs → (m : ℕ) × (done [] (at (flat_map w xs ++ r) n) ≡ Ok (xs, at r m))
+    complete : (xs : List A) (r : List ℕ) (n : ℕ) → (length xs ≡ 0) × AllByRecursion Good xs → (m : ℕ) × (done [] (at (flat_map w xs ++ r) n) ≡ Ok (xs, at r m))
     complete [] r n g = (n, refl)
     complete (x ∷ xs) r n g = absurd (omega (arith, g.0))
 times_reads {A} p w Good h (suc k) = record { sound = sound (times_reads p w Good h k); complete = complete (times_reads p w Good h k) }
   where
-    sound : Reads (times k p) (flat_map w) (λ xs. (length xs ≡ k) × All Good xs) → (s : State) (xs : List A) (t : State) → times (suc k) p s ≡ Ok (xs, t) → ((length xs ≡ suc k) × All Good xs) × (s.rest ≡ flat_map w xs ++ t.rest)
+    sound : Reads (times k p) (flat_map w) (λ xs. (length xs ≡ k) × AllByRecursion Good xs) → (s : State) (xs : List A) (t : State) → times (suc k) p s ≡ Ok (xs, t) → ((length xs ≡ suc k) × AllByRecursion Good xs) × (s.rest ≡ flat_map w xs ++ t.rest)
     sound ih s xs t e =
         let f = then_ok (p s) _ _ e in
         let g = then_ok (times k p f.0.1) _ _ f.2 in
         let q = ok_same g.2 in
         let a = h.sound s f.0.0 f.0.1 f.1 in
         let b = ih.sound f.0.1 g.0.0 g.0.1 g.1 in
-        subst (λ ys. ((length ys ≡ suc k) × All Good ys) × (s.rest ≡ flat_map w ys ++ t.rest)) (ap (λ p. p.0) q) (
+        subst (λ ys. ((length ys ≡ suc k) × AllByRecursion Good ys) × (s.rest ≡ flat_map w ys ++ t.rest)) (ap (λ p. p.0) q) (
           (ap suc b.0.0, (a.0, b.0.1)),
           a.1 ∙ (ap (λ x. w f.0.0 ++ x) (b.1 ∙ ap (λ p. flat_map w g.0.0 ++ p.1.rest) q) ∙ sym (append_assoc (w f.0.0) (flat_map w g.0.0) t.rest)),
         )
 
-    complete : Reads (times k p) (flat_map w) (λ xs. (length xs ≡ k) × All Good xs) → (xs : List A) (r : List ℕ) (n : ℕ) → (length xs ≡ suc k) × All Good xs → (m : ℕ) × (times (suc k) p (at (flat_map w xs ++ r) n) ≡ Ok (xs, at r m))
+    complete : Reads (times k p) (flat_map w) (λ xs. (length xs ≡ k) × AllByRecursion Good xs) → (xs : List A) (r : List ℕ) (n : ℕ) → (length xs ≡ suc k) × AllByRecursion Good xs → (m : ℕ) × (times (suc k) p (at (flat_map w xs ++ r) n) ≡ Ok (xs, at r m))
     complete ih [] r n g = absurd (omega (arith, g.0))
     complete ih (x ∷ xs) r n g =
         let a = h.complete x (flat_map w xs ++ r) n g.1.0 in
@@ -111,7 +111,7 @@ form_whole {A} read w Good sound complete clear = record {
     formed (Some b) n a e = ap Some (ok_same e)
 
 -- a number of things, and then that many of them
-pub counted : {A : Type 0} (count : Reading ℕ) (v : ℕ → List ℕ) (Few : ℕ → Type 0) → Reads count v Few → (p : Reading A) (w : A → List ℕ) (Good : A → Type 0) → Reads p w Good → Reads (◌>>=◌ count (λ n. times n p)) (λ xs. v (length xs) ++ flat_map w xs) (λ xs. Few (length xs) × All Good xs)
+pub counted : {A : Type 0} (count : Reading ℕ) (v : ℕ → List ℕ) (Few : ℕ → Type 0) → Reads count v Few → (p : Reading A) (w : A → List ℕ) (Good : A → Type 0) → Reads p w Good → Reads (◌>>=◌ count (λ n. times n p)) (λ xs. v (length xs) ++ flat_map w xs) (λ xs. Few (length xs) × AllByRecursion Good xs)
 counted count v Few c p w Good h = record {
   sound = λ s xs t e.
       let f = then_ok (count s) _ _ e in

@@ -1,6 +1,6 @@
 -- A text cut at a byte, and a word taken from its start.
 use Rattle.std.proofs.Common.{◌≡◌, ℕ, ◌<◌, Bool, true, false, cond, eqb, List, [], ◌∷◌, ◌++◌, length, Some, None, Option, sym, refl, ap, ◌∙◌, subst, arith, length-append}
-use Rattle.std.specs.List.{AllByRecursion as All}
+use Rattle.std.specs.List.{AllByRecursion}
 use Rattle.std.proofs.lemmas.Bool.{eqb-true, eqb-false, eq-eqb, ne_eqb, cond-true, cond-false}
 use Rattle.numbers.proofs.Written.{none_some}
 use Rattle.lines.specs.Reading.{cut, ahead}
@@ -8,7 +8,7 @@ use Rattle.lines.specs.Lines.{strip}
 
 -- a text without the byte b
 abbrev pub Clear : ℕ → List ℕ → Type 0
-Clear b xs = All (λ x. x ≡ b → ⊥) xs
+Clear b xs = AllByRecursion (λ x. x ≡ b → ⊥) xs
 
 pub some_same : {X : Type 0} {x y : X} → Some x ≡ Some y → x ≡ y
 some_same e = cc

@@ -1,6 +1,6 @@
 -- Maps are read just where they are written.
 use Rattle.std.proofs.Common.{◌≡◌, ℕ, ◌<◌, ◌≤◌, Bool, true, false, cond, ◌&&◌, ltb, leb, List, [], ◌∷◌, ◌++◌, map, length, ℤ, pos, negsuc, Some, None, Ok, Err, codes, Option, sym, refl, ap, ◌∙◌, subst, arith}
-use Rattle.std.specs.List.{AllByRecursion as All}
+use Rattle.std.specs.List.{AllByRecursion}
 use Rattle.std.specs.Str.{bytes_eq}
 use Rattle.std.proofs.ByRecursion.{All-append, All-weaker}
 use Rattle.std.proofs.lemmas.Slice.Eq.{bytes_eq-Decides}
@@ -96,7 +96,7 @@ edge_clear : (b : ℕ) (e : Edge) → b < 45 → Clear b (edge_text e)
 unfolding edge_text
 edge_clear b e h = All-append (λ x. x ≡ b → ⊥) (written e.from) (45 ∷ written e.to) (written_clear b e.from (omega arith)) ((λ q. omega arith), written_clear b e.to (omega arith))
 
-edges_clear : (b : ℕ) (es : List Edge) → b < 45 → All (Clear b) (map edge_text es)
+edges_clear : (b : ℕ) (es : List Edge) → b < 45 → AllByRecursion (Clear b) (map edge_text es)
 edges_clear b [] h = tt
 edges_clear b (e ∷ es) h = (edge_clear b e h, edges_clear b es h)
 
@@ -128,7 +128,7 @@ form_sound v es q = go (bytes_eq v (codes "none")) refl q
         let a = list_sound edge_of edge_text WholeEdge edge_sound v es r.1 in
         (r.0, a.2 ∙ sym (edges_listed es a.0))
 
-form_complete : (es : List Edge) → rising es ≡ true → All WholeEdge es → edges_form (edges_text es) ≡ Some es
+form_complete : (es : List Edge) → rising es ≡ true → AllByRecursion WholeEdge es → edges_form (edges_text es) ≡ Some es
 unfolding edges_text
 form_complete [] r g = refl
 form_complete (e ∷ es) r g = go (bytes_eq v (codes "none")) refl

@@ -1,6 +1,6 @@
 -- A map of points and edges, and how its two lines are read and written.
 use Rattle.std.specs.Prelude.{◌≡◌, ℕ, ◌<◌, ◌≤◌, Bool, true, cond, ◌&&◌, ◌||◌, List, [], ◌∷◌, ◌++◌, map, ℤ, pos, negsuc, Some, None, Ok, Err, codes, Option, Result, ◌==◌, nat_le, nat_lt}
-use Rattle.std.specs.List.{AllByRecursion as All}
+use Rattle.std.specs.List.{AllByRecursion}
 use Rattle.std.specs.Str.{bytes_eq}
 use Rattle.terms.specs.declared.fault.Fault.{Fault}
 use Rattle.terms.specs.declared.fault.Refusal.TheVariants.{WrongPoints, WrongEdge}
@@ -88,7 +88,7 @@ map_text m = line Points (written m.points) ++ line Edges (edges_text m.edges)
 
 -- the maps that may be written
 abbrev pub OnMap : ℕ → List Edge → Type 0
-OnMap points es = All (λ e. (e.from < e.to) × (e.to < points)) es
+OnMap points es = AllByRecursion (λ e. (e.from < e.to) × (e.to < points)) es
 
 abbrev pub GoodEdges : ℕ → List Edge → Type 0
 GoodEdges points es = (rising es ≡ true) × OnMap points es

@@ -1,6 +1,6 @@
 -- The numbers that pass a test: how many, and which stands where.
 use Rattle.std.proofs.Common.{◌≡◌, ℕ, zero, suc, ◌+◌, ◌-◌, ◌<◌, ◌≤◌, Bool, true, false, cond, ◌⊎◌, List, [], ◌∷◌, length, Some, sym, refl, ap, ◌∙◌, ap₂, inl, inr, zero-add, arith}
-use Rattle.std.specs.List.{AllByRecursion as All}
+use Rattle.std.specs.List.{AllByRecursion}
 use Rattle.std.proofs.lemmas.Bool.{true≢false, cases_Bool, cases_eq, or_left, or_right, or_from}
 use Rattle.theory.specs.Trees.{at}
 use Rattle.masks.specs.Masks.{members, some_below}
@@ -31,15 +31,15 @@ members_same p q i (suc n) same =
 abbrev pub Member : (ℕ → Bool) → ℕ → ℕ → ℕ → Type 0
 Member p i n k = (i ≤ k) × (k < i + n) × (p k ≡ true)
 
-later : (p : ℕ → Bool) (i n : ℕ) (ks : List ℕ) → All (Member p (suc i) n) ks → All (Member p i (suc n)) ks
+later : (p : ℕ → Bool) (i n : ℕ) (ks : List ℕ) → AllByRecursion (Member p (suc i) n) ks → AllByRecursion (Member p i (suc n)) ks
 later p i n [] h = tt
 later p i n (k ∷ ks) h = ((omega arith, omega arith, h.0.2), later p i n ks h.1)
 
-members_all_by : (p : ℕ → Bool) (i n : ℕ) → All (Member p (suc i) n) (members p (suc i) n) → (p i ≡ true) ⊎ (p i ≡ false) → All (Member p i (suc n)) (members p i (suc n))
+members_all_by : (p : ℕ → Bool) (i n : ℕ) → AllByRecursion (Member p (suc i) n) (members p (suc i) n) → (p i ≡ true) ⊎ (p i ≡ false) → AllByRecursion (Member p i (suc n)) (members p i (suc n))
 members_all_by p i n h (inl e) = rw (members_in p i n e) ((omega arith, omega arith, e), later p i n (members p (suc i) n) h)
 members_all_by p i n h (inr e) = rw (members_out p i n e) (later p i n (members p (suc i) n) h)
 
-pub members_all : (p : ℕ → Bool) (i n : ℕ) → All (Member p i n) (members p i n)
+pub members_all : (p : ℕ → Bool) (i n : ℕ) → AllByRecursion (Member p i n) (members p i n)
 unfolding members
 members_all p i zero = tt
 members_all p i (suc n) = members_all_by p i n (members_all p (suc i) n) (cases_Bool (p i))

@@ -1,7 +1,7 @@
 -- The buffers that hold the rows of a tree part say the tree that the rows mean.
 use Rattle.std.proofs.Common.{◌≡◌, ℕ, zero, suc, ◌+◌, ◌-◌, ◌<◌, ◌≤◌, min, true, false, cond, ◌&&◌, ltb, leb, List, [], ◌∷◌, ◌++◌, map, length, get_or, take, drop, ℤ, Some, None, Ok, Option, sym, refl, ap, ◌∙◌, append_assoc, arith, length-append}
 use lib.Seq.{take-append_seam, drop-append_seam}
-use Rattle.std.specs.List.{AllByRecursion as All}
+use Rattle.std.specs.List.{AllByRecursion}
 use Rattle.std.proofs.lemmas.List.{length-take, length-take-le, get_or-take, take-append-drop, drop-drop, ext_get_or}
 use Rattle.std.proofs.lemmas.Int.{ints}
 use Rattle.std.proofs.lemmas.Bool.{true≢false, and_from, le-leb, lt-ltb, le-ltb}
@@ -66,7 +66,7 @@ picks_room last room p (r ∷ rs) h g =
     omega (arith, length-append (picked r) (picks_of rs))
 
 -- lists are lawful
-above_all : (own low end : ℕ) (ks : List ℕ) → low ≤ end → All (Above own low) ks → all_above own end ks ≡ true
+above_all : (own low end : ℕ) (ks : List ℕ) → low ≤ end → AllByRecursion (Above own low) ks → all_above own end ks ≡ true
 above_all own low end [] h a = refl
 above_all own low end (k ∷ ks) h a =
     let p = a.0.0 in
@@ -148,12 +148,12 @@ module _ (rs : List Row) (rows : List TreeRow) (picks : List ℕ) (good : GoodTr
       given_known i h ∙ ap Some s ∙ ap (λ v. Some (ended v)) (sym (score_same z f)) ∙ ap (λ (x : TreeRow). Some (ended (score_or_zero x.score))) (sym k)
   given_ended i h e (fork left right) k f s = absurd (true≢false (sym (fork_open i left right k f) ∙ e))
 
-  mapped : (i : ℕ) (xs : List ℕ) → All (Above i (length rs)) xs → map (λ k. Some (tree_of rs k)) xs ≡ map given xs
+  mapped : (i : ℕ) (xs : List ℕ) → AllByRecursion (Above i (length rs)) xs → map (λ k. Some (tree_of rs k)) xs ≡ map given xs
   mapped i xs a =
       let n = enough in
       map_same (λ k. Some (tree_of rs k)) given (Above i (length rs)) (λ k b. sym (given_known k (omega arith))) xs a
 
-  both_above : (i : ℕ) (left right : List ℕ) (s : Side) → Fits i (length rs) (fork left right) → All (Above i (length rs)) (pick s left right)
+  both_above : (i : ℕ) (left right : List ℕ) (s : Side) → Fits i (length rs) (fork left right) → AllByRecursion (Above i (length rs)) (pick s left right)
   both_above i left right Left f = f.0.2
   both_above i left right Right f = f.1.2
 

@@ -1,6 +1,6 @@
 -- The trees of the rows of a good tree: what they are, that no others agree with the rows, and that they are lawful.
 use Rattle.std.proofs.Common.{◌≡◌, ℕ, zero, suc, ◌+◌, ◌-◌, ◌<◌, ◌≤◌, List, [], ◌∷◌, map, length, pos, Some, sym, refl, ap, ◌∙◌, ap₂, arith}
-use Rattle.std.specs.List.{AllByRecursion as All}
+use Rattle.std.specs.List.{AllByRecursion}
 use Rattle.std.proofs.lemmas.List.{length-map}
 use Rattle.std.proofs.lemmas.Int.{ints}
 use Rattle.terms.specs.declared.side.Side.{Side}
@@ -20,13 +20,13 @@ use Rattle.meanings.specs.Laws.{Says, Agrees, RowsAsSaid}
 
 -- what is asked of a row's list: some rows, not too many, and each after the row
 abbrev pub Listed : ℕ → ℕ → List ℕ → Type 0
-Listed own end xs = (0 < length xs) × (length xs ≤ option_limit) × All (Above own end) xs
+Listed own end xs = (0 < length xs) × (length xs ≤ option_limit) × AllByRecursion (Above own end) xs
 
 abbrev pub Fits : ℕ → ℕ → Row → Type 0
 Fits own end (leaf z) = Score z
 Fits own end (fork left right) = Listed own end left × Listed own end right
 
-above_from : (own last end : ℕ) (xs : List ℕ) → last < end → All (λ x. x ≤ last) xs → All (λ x. own < x) xs → All (Above own end) xs
+above_from : (own last end : ℕ) (xs : List ℕ) → last < end → AllByRecursion (λ x. x ≤ last) xs → AllByRecursion (λ x. own < x) xs → AllByRecursion (Above own end) xs
 above_from own last end [] h a b = tt
 above_from own last end (x ∷ xs) h a b =
     let p = a.0 in let q = b.0 in ((q, omega arith), above_from own last end xs h a.1 b.1)

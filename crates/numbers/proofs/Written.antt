@@ -8,7 +8,7 @@ use Rattle.std.proofs.lemmas.List.{map_push}
 use Rattle.std.proofs.lemmas.Bool.{eqb-true, ne_eqb, cond-false, cond-true}
 use Rattle.std.proofs.lemmas.Bool.Decides.{nat_tests}
 use Rattle.std.proofs.ByRecursion.{All-map, All-weaker}
-use Rattle.std.specs.List.{AllByRecursion as All}
+use Rattle.std.specs.List.{AllByRecursion}
 use Rattle.numbers.specs.Numbers.{digit, after, natural, below_zero, above_zero, integer, written, decimal}
 use Rattle.numbers.specs.Laws.{NaturalExact, IntegerExact}
 
@@ -173,7 +173,7 @@ pub written_last : (n : ℕ) → 10 ≤ n → written n ≡ written (n / 10) ++ 
 written_last n h = let q : n ≡ (n / 10) * 10 + n % 10 = omega arith in ap written q ∙ written_more (n / 10) (n % 10) (omega arith) (omega arith)
 
 -- a number is written in digits
-pub written_digits : (n : ℕ) → All (λ x. (48 ≤ x) × (x ≤ 57)) (written n)
+pub written_digits : (n : ℕ) → AllByRecursion (λ x. (48 ≤ x) × (x ≤ 57)) (written n)
 unfolding written
 written_digits zero = ((omega arith, omega arith), tt)
 written_digits (suc n) = All-map (λ x. (48 ≤ x) × (x ≤ 57)) code (digits_of 10 (suc n)) (All-weaker (λ d. d < 10) _ (λ d h. (omega arith, omega arith)) (digits_of 10 (suc n)) (all_below_base_digits_of 10 (suc n) (omega arith)))

@@ -1,6 +1,6 @@
 -- Facts on lists of options: which stands where, maps over them, and that they determine an open tree.
 use Rattle.std.proofs.Common.{◌≡◌, ℕ, zero, suc, ◌<◌, ◌≤◌, List, [], ◌∷◌, map, length, get_or, Some, None, refl, ap, arith}
-use Rattle.std.specs.List.{AllByRecursion as All}
+use Rattle.std.specs.List.{AllByRecursion}
 use Rattle.terms.specs.declared.side.Side.TheVariants.{Left, Right}
 use Rattle.theory.specs.Trees.{Tree, Forest, ended, branch, one, more, trees, options, at}
 
@@ -24,12 +24,12 @@ at_none f [] k e = refl
 at_none f (y ∷ ks) zero e = let z : ◌≡◌ {A = ℕ} 0 1 = cc in absurd (omega arith)
 at_none f (y ∷ ks) (suc k) e = at_none f ks k e
 
-pub at_all : (P : ℕ → Type 0) (ks : List ℕ) (k x : ℕ) → All P ks → Some x ≡ at ks k → P x
+pub at_all : (P : ℕ → Type 0) (ks : List ℕ) (k x : ℕ) → AllByRecursion P ks → Some x ≡ at ks k → P x
 at_all P [] k x h e = let z : ◌≡◌ {A = ℕ} 0 1 = cc in absurd (omega arith)
 at_all P (y ∷ ks) zero x h e = let q : x ≡ y = cc in rw q h.0
 at_all P (y ∷ ks) (suc k) x h e = at_all P ks k x h.1 e
 
-pub map_same : {A : Type 0} (f g : ℕ → A) (P : ℕ → Type 0) → ((k : ℕ) → P k → f k ≡ g k) → (ks : List ℕ) → All P ks → map f ks ≡ map g ks
+pub map_same : {A : Type 0} (f g : ℕ → A) (P : ℕ → Type 0) → ((k : ℕ) → P k → f k ≡ g k) → (ks : List ℕ) → AllByRecursion P ks → map f ks ≡ map g ks
 map_same f g P same [] h = refl
 map_same f g P same (k ∷ ks) h =
     let a = same k h.0 in let b = map_same f g P same ks h.1 in cc
@@ -48,7 +48,7 @@ some_apart {A} (x ∷ xs) (y ∷ ys) e =
     let r = some_apart xs ys t in
     cc
 
-pub all_map : {A : Type 0} (P : A → Type 0) (f : ℕ → A) → ((k : ℕ) → P (f k)) → (ks : List ℕ) → All P (map f ks)
+pub all_map : {A : Type 0} (P : A → Type 0) (f : ℕ → A) → ((k : ℕ) → P (f k)) → (ks : List ℕ) → AllByRecursion P (map f ks)
 all_map P f h [] = tt
 all_map P f h (k ∷ ks) = (h k, all_map P f h ks)
 

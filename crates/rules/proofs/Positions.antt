@@ -1,6 +1,6 @@
 -- What a position says when it is asked: both lists of options where both have one, and its score where one is empty.
 use Rattle.std.proofs.Common.{◌≡◌, ◌<◌, ◌≤◌, List, [], ◌∷◌, length, ℤ, None, refl, ap, arith}
-use Rattle.std.specs.List.{AllByRecursion as All}
+use Rattle.std.specs.List.{AllByRecursion}
 use Rattle.terms.specs.declared.side.Side.{Side}
 use Rattle.terms.specs.declared.side.Side.TheVariants.{Left, Right}
 use Rattle.terms.specs.Sides.{pick}
@@ -34,11 +34,11 @@ ended_right v [] R e = refl
 ended_right v (x ∷ L) [] e = refl
 ended_right v (x ∷ L) (y ∷ R) e = absurd (omega arith)
 
-lawful_forest : (x : Tree) (xs : List Tree) → All Lawful (x ∷ xs) → LawfulF (forest x xs)
+lawful_forest : (x : Tree) (xs : List Tree) → AllByRecursion Lawful (x ∷ xs) → LawfulF (forest x xs)
 lawful_forest x [] h = h.0
 lawful_forest x (y ∷ ys) h = (h.0, lawful_forest y ys h.1)
 
-pub lawful_position : (v : ℤ) (L R : List Tree) → Score v → length L ≤ option_limit → length R ≤ option_limit → All Lawful L → All Lawful R → Lawful (position v L R)
+pub lawful_position : (v : ℤ) (L R : List Tree) → Score v → length L ≤ option_limit → length R ≤ option_limit → AllByRecursion Lawful L → AllByRecursion Lawful R → Lawful (position v L R)
 lawful_position v [] R s l r hl hr = s
 lawful_position v (x ∷ L) [] s l r hl hr = s
 lawful_position v (x ∷ L) (y ∷ R) s l r hl hr =

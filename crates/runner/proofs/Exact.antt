@@ -1,6 +1,6 @@
 -- A job runs to its end exactly where its text is that of a legal job.
 use Rattle.std.proofs.Common.{◌≡◌, ℕ, ◌-◌, List, [], ◌∷◌, map, Ok, Err, Option, Result, sym, refl, ap, ◌∙◌, subst}
-use Rattle.std.specs.List.{AllByRecursion as All}
+use Rattle.std.specs.List.{AllByRecursion}
 use Rattle.terms.specs.declared.fault.Fault.{Fault}
 use Rattle.theory.specs.Trees.{Tree}
 use Rattle.stories.specs.Seatings.{seated}
@@ -43,7 +43,7 @@ finished_run : (x : Outcome) (s : State) → s.rest ≡ [] → finished (x, s) �
 finished_run x s e = ap (λ r. finished (x, at r s.line)) e
 
 module _ (lent room : ℕ) where
-  meant : (ps : List Part) → All (GoodPart lent room) ps → Meant (map meaning ps)
+  meant : (ps : List Part) → AllByRecursion (GoodPart lent room) ps → Meant (map meaning ps)
   meant [] g = tt
   meant (p ∷ ps) g = (part_lawful lent room p g.0, meant ps g.1)
 

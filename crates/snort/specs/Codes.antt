@@ -2,7 +2,7 @@
 use Rattle.std.specs.Prelude.{◌≡◌, ℕ, zero, suc, ◌+◌, ◌-◌, ◌/◌, ◌%◌, ◌^◌, ◌<◌, ◌≤◌, Bool, true, false, cond, ◌&&◌, ◌||◌, ◌⊎◌, List, [], ◌∷◌, map, length, pos, ◌-ℤ◌, is_some, Some, None, Option, ◌==◌, ◌≢◌, bit_or, count_ones, refl}
 use Rattle.std.proofs.Math.Path.{ap, ap₂}
 use Rattle.std.proofs.Common.{sym, ◌∙◌, subst, subst₂, inl, inr, arith, pow_mono}
-use Rattle.std.specs.List.{AllByRecursion as All}
+use Rattle.std.specs.List.{AllByRecursion}
 use Rattle.std.proofs.lemmas.Nat.{pow_below, or_lt}
 use Rattle.std.proofs.lemmas.List.{length-map}
 use Rattle.std.proofs.lemmas.Bool.{cases_Bool, cases_eq, lt-ltb, eq-eqb, ne_eqb, or_left, or_right}
@@ -144,7 +144,7 @@ module _ (points : ℕ) (joined : ℕ → ℕ → Bool) (few : points ≤ 12) (s
   abbrev Choice : Side → ℕ → ℕ → Type 0
   Choice s code k = (k < points) × (legal (own s code) (far s code) k ≡ true)
 
-  chosen : (s : Side) (code : ℕ) → All (Member (legal (own s code) (far s code)) 0 points) (choices s code)
+  chosen : (s : Side) (code : ℕ) → AllByRecursion (Member (legal (own s code) (far s code)) 0 points) (choices s code)
   chosen s code = members_all (legal (own s code) (far s code)) 0 points
 
   -- what the rules say
@@ -301,12 +301,12 @@ module _ (points : ℕ) (joined : ℕ → ℕ → Bool) (few : points ≤ 12) (s
       let b : right code < code_base = let c = low_codes in let h = z.high in omega arith in
       omega arith
 
-  all_after : (s : Side) (code : ℕ) → Stands code → (ks : List ℕ) → All (Member (legal (own s code) (far s code)) 0 points) ks → All (After s code) ks
+  all_after : (s : Side) (code : ℕ) → Stands code → (ks : List ℕ) → AllByRecursion (Member (legal (own s code) (far s code)) 0 points) ks → AllByRecursion (After s code) ks
   all_after s code st [] h = tt
   all_after s code st (k ∷ ks) h =
       ((grown_stands code s k st (omega arith) h.0.2, omega arith, code_low code st), all_after s code st ks h.1)
 
-  listed_after_by : (s : Side) (code : ℕ) → Stands code ⊎ Fails code → Over code ⊎ Open code → All (After s code) (listed s code)
+  listed_after_by : (s : Side) (code : ℕ) → Stands code ⊎ Fails code → Over code ⊎ Open code → AllByRecursion (After s code) (listed s code)
   listed_after_by s code (inr st) o = rw (listed_none s code (mask_fails s code st)) tt
   listed_after_by s code (inl st) (inl z) = rw (listed_none s code (mask_over s code st z)) tt
   listed_after_by s code (inl st) (inr o) = rw (listed_open s code st o) (all_after s code st (choices s code) (chosen s code))
@@ -319,7 +319,7 @@ module _ (points : ℕ) (joined : ℕ → ℕ → Bool) (few : points ≤ 12) (s
   standing_or_not : (code : ℕ) → Stands code ⊎ Fails code
   standing_or_not code = cases_Bool (play.stands points joined (left code) (right code))
 
-  listed_after : (s : Side) (code : ℕ) → All (After s code) (listed s code)
+  listed_after : (s : Side) (code : ℕ) → AllByRecursion (After s code) (listed s code)
   listed_after s code = listed_after_by s code (standing_or_not code) (moving code)
 
   answer_options : (s : Side) (code : ℕ) → options_in (tree code) s ≡ map (λ k. plain (code + growth s k)) (listed s code)

@@ -1,6 +1,6 @@
 -- Lists of row numbers: what is read is what is written, and the turns of the loops that read them.
 use Rattle.std.proofs.Common.{◌≡◌, ℕ, ◌+◌, ◌<◌, ◌≤◌, Bool, true, false, cond, ◌&&◌, ltb, leb, List, [], ◌∷◌, ◌++◌, map, length, get_or, drop, Some, None, Ok, Err, Option, refl, ap, ◌∙◌, subst, append-nil, arith, length-append}
-use Rattle.std.specs.List.{AllByRecursion as All}
+use Rattle.std.specs.List.{AllByRecursion}
 use Rattle.std.proofs.lemmas.List.{at_drop_more, at_drop_all}
 use Rattle.std.proofs.ByRecursion.{All-map}
 use Rattle.std.proofs.lemmas.Bool.{cond-true, cond-false, leb-true, le-leb, lt-leb, le-ltb, ltb-true, lt-ltb, and_parts, and_from}
@@ -28,11 +28,11 @@ few_some (Some ys) xs e = go (leb (length ys) option_limit) refl e
     go true t e = (subst (λ zs. length zs ≤ option_limit) (some_same e) (leb-true (length ys) option_limit t), e)
     go false t e = none_some e
 
-above_all : (row : ℕ) (xs : List ℕ) → all_above row xs ≡ true → All (λ x. row < x) xs
+above_all : (row : ℕ) (xs : List ℕ) → all_above row xs ≡ true → AllByRecursion (λ x. row < x) xs
 above_all row [] e = tt
 above_all row (x ∷ xs) e = let p = and_parts (ltb row x) (all_above row xs) e in (ltb-true row x p.0, above_all row xs p.1)
 
-all_above_from : (row : ℕ) (xs : List ℕ) → All (λ x. row < x) xs → all_above row xs ≡ true
+all_above_from : (row : ℕ) (xs : List ℕ) → AllByRecursion (λ x. row < x) xs → all_above row xs ≡ true
 all_above_from row [] g = refl
 all_above_from row (x ∷ xs) g = and_from (ltb row x) (all_above row xs) (lt-ltb row x g.0) (all_above_from row xs g.1)
 
@@ -44,28 +44,28 @@ pub judged_err : {A : Type 0} (o : Option A) (n : ℕ) (e : Fault) → Err e ≡
 judged_err None n e q = (refl, err_same q)
 judged_err (Some a) n e q = err_ok q
 
-clears : (b : ℕ) → b < 48 → (ys : List ℕ) → All (λ y. Clear b (written y)) ys
+clears : (b : ℕ) → b < 48 → (ys : List ℕ) → AllByRecursion (λ y. Clear b (written y)) ys
 clears b h [] = tt
 clears b h (y ∷ ys) = (written_clear b y h, clears b h ys)
 
-links_sound : (last : ℕ) (v xs : List ℕ) → links last v ≡ Some xs → (0 < length xs) × (length xs ≤ option_limit) × All (λ x. x ≤ last) xs × (v ≡ links_text xs)
+links_sound : (last : ℕ) (v xs : List ℕ) → links last v ≡ Some xs → (0 < length xs) × (length xs ≤ option_limit) × AllByRecursion (λ x. x ≤ last) xs × (v ≡ links_text xs)
 unfolding links_text
 links_sound last v xs e =
     let f = few_some (all_of (upto last) (pieces v)) xs e in
     let a = list_sound (upto last) written (λ x. x ≤ last) (upto_sound last) v xs f.1 in
     (a.0, f.0, a.1, a.2)
 
-links_complete : (last : ℕ) (xs : List ℕ) → 0 < length xs → length xs ≤ option_limit → All (λ x. x ≤ last) xs → links last (links_text xs) ≡ Some xs
+links_complete : (last : ℕ) (xs : List ℕ) → 0 < length xs → length xs ≤ option_limit → AllByRecursion (λ x. x ≤ last) xs → links last (links_text xs) ≡ Some xs
 unfolding links_text
 links_complete last xs z h g =
     ap few (list_complete (upto last) written (λ x. x ≤ last) (upto_complete last) xs z g (All-map (Clear 44) written xs (clears 44 (omega arith) xs)))
     ∙ cond-true (leb (length xs) option_limit) _ _ (le-leb (length xs) option_limit h)
 
 -- a list of options is read as it is written
-placed_ok : (room : ℕ) (p : Place) (xs : List ℕ) (n : ℕ) (ys : List ℕ) → placed room p xs n ≡ Ok ys → All (λ x. p.row < x) xs × (p.used + length xs ≤ room) × (xs ≡ ys)
+placed_ok : (room : ℕ) (p : Place) (xs : List ℕ) (n : ℕ) (ys : List ℕ) → placed room p xs n ≡ Ok ys → AllByRecursion (λ x. p.row < x) xs × (p.used + length xs ≤ room) × (xs ≡ ys)
 placed_ok room p xs n ys e = go (all_above p.row xs) (leb (p.used + length xs) room) refl refl e
   where
-    go : (t u : Bool) → all_above p.row xs ≡ t → leb (p.used + length xs) room ≡ u → cond t (cond u (Ok xs) (Err (fault TreeTooLarge n))) (Err (fault RowNotAbove n)) ≡ Ok ys → All (λ x. p.row < x) xs × (p.used + length xs ≤ room) × (xs ≡ ys)
+    go : (t u : Bool) → all_above p.row xs ≡ t → leb (p.used + length xs) room ≡ u → cond t (cond u (Ok xs) (Err (fault TreeTooLarge n))) (Err (fault RowNotAbove n)) ≡ Ok ys → AllByRecursion (λ x. p.row < x) xs × (p.used + length xs ≤ room) × (xs ≡ ys)
     go true true t u e = (above_all p.row xs t, leb-true (p.used + length xs) room u, ok_same e)
     go true false t u e = err_ok e
     go false u t v e = err_ok e

@@ -1,6 +1,6 @@
 -- The rows of a tree as a job writes them.
 use Rattle.std.specs.Prelude.{ℕ, zero, suc, ◌+◌, ◌-◌, ◌<◌, ◌≤◌, Bool, true, cond, ◌&&◌, List, [], ◌∷◌, ◌++◌, map, length, ℤ, Some, None, Ok, Err, Option, Result, nat_le, nat_lt}
-use Rattle.std.specs.List.{flat_map, AllByRecursion as All}
+use Rattle.std.specs.List.{flat_map, AllByRecursion}
 use Rattle.terms.specs.declared.fault.Fault.{Fault}
 use Rattle.terms.specs.declared.fault.Refusal.TheVariants.{RowNotAbove, TreeTooLarge}
 use Rattle.terms.specs.Refusals.{fault}
@@ -106,7 +106,7 @@ tree_text rows = line key.Rows (written (length rows)) ++ flat_map row_text rows
 
 -- what is asked of a tree part, with `lent` rows and room for `room` picks
 abbrev pub GoodLinks : ℕ → ℕ → Place → List ℕ → Type 0
-GoodLinks last room p xs = (0 < length xs) × (length xs ≤ option_limit) × All (λ x. x ≤ last) xs × All (λ x. p.row < x) xs × (p.used + length xs ≤ room)
+GoodLinks last room p xs = (0 < length xs) × (length xs ≤ option_limit) × AllByRecursion (λ x. x ≤ last) xs × AllByRecursion (λ x. p.row < x) xs × (p.used + length xs ≤ room)
 
 abbrev pub GoodRow : ℕ → ℕ → Place → Row → Type 0
 GoodRow last room p (leaf z) = Score z

@@ -3,7 +3,7 @@ use Rattle.std.specs.Prelude.{◌≡◌, ℕ, zero, suc, ◌+◌, ◌-◌, ◌<�
 use Rattle.std.proofs.Math.Path.{refl, ap, ap₂, sym}
 use Rattle.std.proofs.Common.{◌∙◌, inl, inr}
 use native.Mathlib.Omega.{arith}
-use Rattle.std.specs.List.{AllByRecursion as All}
+use Rattle.std.specs.List.{AllByRecursion}
 use Rattle.std.proofs.lemmas.List.{length-map, length-take, length-take-le, length-drop, get_or_past, get_or-take, get_or-drop, at_drop_more, take-take, drop-take}
 use Rattle.std.proofs.ByRecursion.{All-get_or}
 use Rattle.std.proofs.lemmas.Int.{ints}
@@ -25,7 +25,7 @@ use Rattle.trees.specs.Written.{row_limit, pick_limit, empty, blank, named, all_
 abbrev pub Above : ℕ → ℕ → ℕ → Type 0
 Above own end k = (own < k) × (k < end)
 
-all_above_all : (own end : ℕ) (ks : List ℕ) → all_above own end ks ≡ true → All (Above own end) ks
+all_above_all : (own end : ℕ) (ks : List ℕ) → all_above own end ks ≡ true → AllByRecursion (Above own end) ks
 all_above_all own end [] h = tt
 all_above_all own end (k ∷ ks) h =
     let p = and_parts (nat_lt own k && nat_lt k end) (all_above own end ks) h in
@@ -49,7 +49,7 @@ pub record Sound (end : ℕ) (picks : List ℕ) (own : ℕ) (l : PickRun) : Type
   pub some : 1 ≤ l.count
   pub few : l.count ≤ option_limit
   pub within : l.begin + l.count ≤ length picks
-  pub above : All (Above own end) (named picks l)
+  pub above : AllByRecursion (Above own end) (named picks l)
 
 pub sound : (end : ℕ) (picks : List ℕ) (own : ℕ) (l : PickRun) → lawful_list end picks own l ≡ true → Sound end picks own l
 sound end picks own l h =
@@ -92,11 +92,11 @@ module _ (rows : List TreeRow) (picks : List ℕ) where
   pub options_ended : (i : ℕ) (s : Side) → open_row rows picks i ≡ false → options_at rows picks i s ≡ []
   options_ended i s e = none_named (list_at rows picks i s) (list_ended i s e)
 
-  options_above_by : (i : ℕ) (s : Side) → (open_row rows picks i ≡ true) ⊎ (open_row rows picks i ≡ false) → All (Above i (length rows)) (options_at rows picks i s)
+  options_above_by : (i : ℕ) (s : Side) → (open_row rows picks i ≡ true) ⊎ (open_row rows picks i ≡ false) → AllByRecursion (Above i (length rows)) (options_at rows picks i s)
   options_above_by i s (inl e) = (list_open i s e).above
   options_above_by i s (inr e) = rw (options_ended i s e) tt
 
-  pub options_above : (i : ℕ) (s : Side) → All (Above i (length rows)) (options_at rows picks i s)
+  pub options_above : (i : ℕ) (s : Side) → AllByRecursion (Above i (length rows)) (options_at rows picks i s)
   options_above i s = options_above_by i s (cases_Bool (open_row rows picks i))
 
   length_options_by : (i : ℕ) (s : Side) → (open_row rows picks i ≡ true) ⊎ (open_row rows picks i ≡ false) → length (options_at rows picks i s) ≡ (list_at rows picks i s).count
