@@ -1,5 +1,5 @@
 -- What a seating leaves in the columns of a bank: the part behind the others, or all as it was.
-use Rattle.std.proofs.Common.{◌≡◌, ℕ, ◌+◌, ◌-◌, ◌<◌, ◌≤◌, List, [], ◌∷◌, ◌++◌, length, get_or, take, drop, set, replicate, Some, None, Ok, Err, Option, Result, sym, refl, ap, ◌∙◌, subst, inl, inr, not-suc-le-zero, arith}
+use Rattle.std.proofs.Common.{◌≡◌, ℕ, ◌+◌, ◌-◌, ◌<◌, ◌≤◌, List, [], ◌∷◌, ◌++◌, length, get_or, take, drop, set, replicate, Some, Ok, Err, Option, Result, sym, refl, ap, ◌∙◌, subst, inl, inr, not-suc-le-zero, arith}
 use lib.ListN.{length-replicate}
 use Rattle.std.specs.List.{flat_map}
 use Rattle.std.proofs.lemmas.Bool.{cases_lt}
@@ -7,16 +7,15 @@ use borrow.Rule.Slice.PartMut.{put_mid}
 use Rattle.std.proofs.lemmas.List.{append-nil, drop_all, take_rest, length-drop, length-take-le, get_or_append_left, get_or-append_right, get_or-replicate, get_or-drop, get_or_past}
 use Rattle.terms.specs.declared.fault.Refusal.{Refusal}
 use Rattle.theory.specs.Trees.{Tree, size}
-use Rattle.spreading.specs.Shapes.{row_limit, shapes_of, blank as blank-shape}
+use Rattle.spreading.specs.Shapes.{row_limit, shapes_of, blank as blank_shape}
 use Rattle.spreading.specs.declared.shape.Shape.{Shape}
-use Rattle.spreading.proofs.Shapes.{length_shapes}
 use Rattle.thermographs.specs.Figures.{corner_limit, strip_of, blank}
 use Rattle.thermographs.specs.declared.figures.Figures.{Figures}
 use Rattle.encoding.specs.Columns.{part_limit, Column, Holds}
 use Rattle.encoding.proofs.Columns.{put, column_none, column_more, column_wiped}
 use Rattle.encoding.proofs.Holding.{held_more}
 use Rattle.bank.specs.Held.{part_figures, Held, Within}
-use Rattle.bank.specs.Drafts.{lacks, onto, Drafted, FillInto}
+use Rattle.bank.specs.Drafts.{lacks, onto, FillInto}
 use Rattle.bank.specs.Placing.{cause_by, Judged, Placed}
 use Rattle.bank.specs.declared.columns.Columns.{Columns}
 use Rattle.bank.specs.declared.draft.Extent.{Extent}
@@ -108,7 +107,7 @@ pub unchanged : (c : Columns) (ts : List Tree) (t : Tree) (r : Refusal) (shapes 
     → FreeFill c t (Err r) shapes figures corners → after_fill c shapes figures corners ≡ c
 unchanged c ts t r shapes figures corners w f h q =
     columns_eq (after_fill c shapes figures corners) c
-    (column_back shapes_of blank-shape c.shapes shapes c.row_starts row_limit c.rows ts f.shapes w.1 h.rows.rows q.1)
+    (column_back shapes_of blank_shape c.shapes shapes c.row_starts row_limit c.rows ts f.shapes w.1 h.rows.rows q.1)
     (column_back part_figures blank c.figures figures c.row_starts row_limit c.rows ts f.figures w.1 h.figures q.2)
     (column_back strip_of 0 c.corners corners c.corner_starts corner_limit c.turns ts f.corners w.2 h.corners q.3)
     refl refl refl refl refl
@@ -183,7 +182,7 @@ cleared entries d xs ys starts used ts room h e = record {
 }
 
 pub held_cleared : (c : Columns) (ts : List Tree) (shapes : List Shape) (figures : List Figures) (corners : List ℕ) → Within c → Full c → Held c ts
-    → shapes ≡ replicate (length (take (c.rows - 0) (drop 0 c.shapes))) blank-shape → figures ≡ replicate (length (take (c.rows - 0) (drop 0 c.figures))) blank
+    → shapes ≡ replicate (length (take (c.rows - 0) (drop 0 c.shapes))) blank_shape → figures ≡ replicate (length (take (c.rows - 0) (drop 0 c.figures))) blank
     → corners ≡ replicate (length (take (c.turns - 0) (drop 0 c.corners))) 0
     → Held (record {
       shapes = put_mid 0 (c.rows - 0) c.shapes shapes;
@@ -198,7 +197,7 @@ pub held_cleared : (c : Columns) (ts : List Tree) (shapes : List Shape) (figures
 held_cleared c ts shapes figures corners w f h a b d = record {
   rows = record {
     many = refl;
-    rows = cleared shapes_of blank-shape c.shapes shapes c.row_starts c.rows ts (omega (arith, w.1, f.shapes)) h.rows.rows a;
+    rows = cleared shapes_of blank_shape c.shapes shapes c.row_starts c.rows ts (omega (arith, w.1, f.shapes)) h.rows.rows a;
     seatable = λ p lt. absurd (not-suc-le-zero lt);
   };
   figures = cleared part_figures blank c.figures figures c.row_starts c.rows ts (omega (arith, w.1, f.figures)) h.figures b;

@@ -1,8 +1,8 @@
 -- What the figures and corners of a part tell of its rows, and so what a diagram shows.
-use Rattle.std.proofs.Common.{◌≡◌, ℕ, zero, suc, ◌+◌, ◌<◌, ◌≤◌, cond, ltb, List, [], ◌∷◌, ◌++◌, length, get_or, take, drop, ℤ, pos, Some, None, sym, refl, ap, ◌∙◌, subst, inl, inr, le_of_suc-le-suc, not-suc-le-zero, arith}
+use Rattle.std.proofs.Common.{◌≡◌, ℕ, zero, suc, ◌+◌, ◌<◌, ◌≤◌, ltb, List, [], ◌∷◌, ◌++◌, length, get_or, drop, ℤ, pos, ◌≤ℤ◌, Some, None, sym, refl, ap, ◌∙◌, subst, inl, inr, le_of_suc-le-suc, not-suc-le-zero, arith}
 use mathlib.Core.Logic.{∥∥₁_elim}
 use lib.IntN.{ℤ_set}
-use denote.Struct.Props.{≤ℤ_prop}
+use Rattle.std.proofs.Props.{props}
 use Rattle.std.proofs.lemmas.List.FromFn.{get_or-map-range_with_len}
 use Rattle.std.proofs.lemmas.List.{append-nil, append_assoc}
 use Rattle.std.proofs.lemmas.Int.{ints}
@@ -11,7 +11,7 @@ use Rattle.terms.specs.declared.side.Side.TheVariants.{Left, Right}
 use Rattle.theory.specs.Trees.{Tree, at, size}
 use Rattle.theory.specs.Fair.{Fair}
 use Rattle.theory.specs.Walls.{left_wall, right_wall, temperature, mean}
-use Rattle.theory.specs.Corners.{Ordered, rise, rising, falling, corners_of}
+use Rattle.theory.specs.Corners.{Ordered, rise, rising, falling}
 use Rattle.theory.proofs.Corners.{walls_are_drawn_lem, wall_corners}
 use Rattle.theory.proofs.Meet.{walls_slope_lem}
 use Rattle.theory.proofs.Range.{walls_join_lem, figures_fit_lem}
@@ -29,6 +29,9 @@ use Rattle.bank.specs.Diagrams.{left_of, right_of, Pictures, Nothing, Shows}
 use Rattle.bank.specs.declared.columns.Columns.{Columns}
 use Rattle.bank.specs.declared.diagram.Diagram.{Diagram}
 use Rattle.bank.proofs.Drafting.{length_figures}
+
+pub ≤ℤ_prop : {a b : ℤ} → IsProp (a ≤ℤ b)
+≤ℤ_prop {a = a} {b = b} = hlevel props
 
 pub get_d_figures : (t : Tree) (k : ℕ) (d : Figures) → k < size t → get_or (part_figures t) k d ≡ figures_at t 0 k
 unfolding figures_rows

@@ -1,5 +1,5 @@
 -- The trees that a bank holds: its rows tell which.
-use Rattle.std.specs.Prelude.{◌≡◌, List}
+use Rattle.std.specs.Prelude.{List}
 use Rattle.theory.specs.Trees.{Tree}
 use Rattle.encoding.proofs.Contents.{Only, content}
 use Rattle.encoding.proofs.Decoding.{rows_tell_trees_lem}

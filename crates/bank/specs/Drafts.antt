@@ -5,7 +5,7 @@ use Rattle.terms.specs.declared.fault.Refusal.TheVariants.{RowsFull, TooHigh, Co
 use Rattle.theory.specs.Limits.{greatest_height}
 use Rattle.theory.specs.Trees.{Tree, height, size}
 use Rattle.theory.specs.Stops.{cold}
-use Rattle.spreading.specs.Shapes.{shapes_of, blank as blank-shape}
+use Rattle.spreading.specs.Shapes.{shapes_of, blank as blank_shape}
 use Rattle.spreading.specs.declared.shape.Shape.{Shape}
 use Rattle.thermographs.specs.Figures.{strip_of, blank}
 use Rattle.thermographs.specs.declared.figures.Figures.{Figures}
@@ -47,5 +47,5 @@ DraftInto t shapes figures corners (Err r) shapes' figures' corners' = lacks (le
 abbrev pub FillInto : Tree → List Shape → List Figures → List ℕ → Result Extent Refusal → List Shape → List Figures → List ℕ → Type 0
 FillInto t shapes figures corners (Ok e) shapes' figures' corners' = Drafted t e shapes figures corners shapes' figures' corners'
 FillInto t shapes figures corners (Err r) shapes' figures' corners' =
-    (lacks (length shapes) (length corners) t ≡ Some r) × (shapes' ≡ replicate (length shapes) blank-shape) ×
+    (lacks (length shapes) (length corners) t ≡ Some r) × (shapes' ≡ replicate (length shapes) blank_shape) ×
     (figures' ≡ replicate (length figures) blank) × (corners' ≡ replicate (length corners) 0)

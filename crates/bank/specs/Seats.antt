@@ -1,5 +1,5 @@
 -- What a seating does.
-use Rattle.std.specs.Prelude.{◌≡◌, ℕ, List, [], ◌∷◌, ◌++◌, length, Some, None, Ok, Err, Option, Result}
+use Rattle.std.specs.Prelude.{◌≡◌, ℕ, [], ◌∷◌, ◌++◌, length, Some, None, Ok, Err, Option, Result}
 use Rattle.terms.specs.declared.fault.Refusal.{Refusal}
 use Rattle.theory.specs.Trees.{Tree}
 use Rattle.stories.specs.Seatings.{cause}

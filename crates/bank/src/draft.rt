@@ -1,7 +1,7 @@
 ghost use Rattle.std.specs.Prelude.{◌≡◌, ◌≤◌, true, length, replicate, Some};
 ghost use Rattle.theory.specs.Trees.{Tree};
 ghost use Rattle.rules.specs.Meaning.{known_in};
-ghost use Rattle.spreading.specs.Shapes.{row_limit, blank as blank-shape};
+ghost use Rattle.spreading.specs.Shapes.{row_limit, blank as blank_shape};
 ghost use Rattle.thermographs.specs.Figures.{corner_limit, blank};
 ghost use Rattle.bank.specs.Drafts.{DraftInto, FillInto};
 
@@ -20,7 +20,7 @@ pub struct Extent {
 
 // Makes rows and corners blank.
 pub fn erase(shapes: &mut [Shape], figures: &mut [Figures], corners: &mut [u32])
-    ensures shapes { shapes.new ≡ replicate (length shapes.old) blank-shape }
+    ensures shapes { shapes.new ≡ replicate (length shapes.old) blank_shape }
     ensures figures { figures.new ≡ replicate (length figures.old) blank }
     ensures corners { corners.new ≡ replicate (length corners.old) 0 }
 {

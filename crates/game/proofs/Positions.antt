@@ -1,7 +1,7 @@
 -- The figures of one position, by what a bank keeps of it.
 use mathlib.Core.Logic.{∥∥₁_elim}
 use Rattle.std.proofs.Common.{◌≡◌, ℕ, ◌≤◌, length, ℤ, pos, neg_ℤ, ◌≤ℤ◌, Some, None, refl, subst, arith}
-use denote.Struct.Props.{≤ℤ_prop}
+use Rattle.bank.proofs.Showing.{≤ℤ_prop}
 use Rattle.std.proofs.lemmas.Int.{ints}
 use Rattle.terms.specs.declared.side.Side.{Side}
 use Rattle.terms.specs.declared.side.Side.TheVariants.{Left, Right}

@@ -1,10 +1,9 @@
 -- A whole job is read as it is written.
-use Rattle.std.proofs.Common.{◌≡◌, ℕ, ◌-◌, ◌≤◌, Bool, true, false, cond, leb, List, [], ◌∷◌, ◌++◌, length, Ok, Err, Result, sym, refl, ap, ◌∙◌, subst, append-nil}
+use Rattle.std.proofs.Common.{◌≡◌, ℕ, ◌-◌, ◌≤◌, Bool, true, false, cond, leb, List, [], ◌∷◌, ◌++◌, length, Ok, Err, sym, refl, ap, ◌∙◌, subst, append-nil}
 use Rattle.std.proofs.lemmas.Bool.{leb-true, le-leb, cond-true}
-use Rattle.terms.specs.declared.fault.Fault.{Fault}
 use Rattle.terms.specs.declared.fault.Refusal.TheVariants.{JobTooLong}
 use Rattle.terms.specs.Refusals.{fault}
-use Rattle.numbers.specs.Numbers.{written, upto}
+use Rattle.numbers.specs.Numbers.{upto}
 use Rattle.lines.specs.declared.key.Key.TheVariants as key
 use Rattle.lines.specs.Reading.{State, at, then, longest}
 use Rattle.lines.specs.Lines.{line, entry, form}

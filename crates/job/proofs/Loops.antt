@@ -1,5 +1,5 @@
 -- The turns of a loop of which only the success is kept.
-use Rattle.std.proofs.Common.{◌≡◌, ℕ, zero, suc, ◌+◌, ◌-◌, ◌<◌, List, [], ◌∷◌, length, Ok, Err, Result, sym, refl, ap, ◌∙◌, arith}
+use Rattle.std.proofs.Common.{◌≡◌, ℕ, zero, suc, ◌+◌, ◌-◌, ◌<◌, List, ◌∷◌, length, Ok, Err, Result, sym, refl, ap, ◌∙◌, arith}
 use Rattle.terms.specs.declared.fault.Fault.{Fault}
 use Rattle.lines.specs.Reading.{State, Reading, then, times}
 use Rattle.lines.specs.Reading.{◌>>=◌}

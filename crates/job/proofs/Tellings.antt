@@ -1,5 +1,5 @@
 -- What is told of a job, step by step.
-use Rattle.std.proofs.Common.{◌≡◌, ℕ, zero, suc, ◌+◌, ◌-◌, ◌<◌, ◌≤◌, Bool, true, false, cond, List, [], ◌∷◌, length, Ok, Err, Result, sym, refl, ap, ◌∙◌, arith}
+use Rattle.std.proofs.Common.{◌≡◌, ℕ, ◌-◌, ◌<◌, List, [], ◌∷◌, length, Ok, Err, Result, sym, refl, ap, ◌∙◌, arith}
 use Rattle.terms.specs.declared.fault.Fault.{Fault}
 use Rattle.terms.specs.declared.fault.Refusal.TheVariants.{BytesAfterJob}
 use Rattle.terms.specs.Refusals.{fault}
@@ -7,7 +7,6 @@ use Rattle.terms.specs.declared.side.Side.{Side}
 use Rattle.terms.specs.declared.side.Mover.{Mover}
 use Rattle.lines.specs.Reading.{State, at, Reading, then, done, ◌>>=◌, fits}
 use Rattle.lines.proofs.Fields.{ok_same, err_ok, err_same}
-use Rattle.job.specs.declared.moves.Move.{Move}
 use Rattle.job.specs.declared.counts.Counts.{Counts}
 use Rattle.job.specs.declared.account.Account.{Account}
 use Rattle.job.specs.Grammar.{Part, Job}

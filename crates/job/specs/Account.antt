@@ -1,5 +1,5 @@
 -- What is told of a job that was read.
-use Rattle.std.specs.Prelude.{ℕ, length, Ok, Err, Result}
+use Rattle.std.specs.Prelude.{ℕ, length, Ok, Result}
 use Rattle.terms.specs.declared.fault.Fault.{Fault}
 use Rattle.lines.specs.Reading.{Reading, then}
 use Rattle.job.specs.declared.account.Account.{Account}

@@ -1,5 +1,5 @@
 -- The next line by its key, and by the word that it begins with.
-use Rattle.std.proofs.Common.{◌≡◌, ℕ, ◌+◌, Bool, true, false, cond, not, ◌⊎◌, List, [], ◌∷◌, ◌++◌, Some, None, Ok, Err, codes, Option, Result, sym, refl, ap, ◌∙◌, subst, inl, inr, append_assoc, arith}
+use Rattle.std.proofs.Common.{◌≡◌, ℕ, ◌+◌, Bool, true, false, cond, List, [], ◌∷◌, ◌++◌, Some, None, Ok, Err, codes, Option, Result, sym, refl, ap, ◌∙◌, subst, append_assoc, arith}
 use Rattle.std.specs.Str.{bytes_eq}
 use Rattle.std.proofs.ByRecursion.{All-append}
 use Rattle.std.proofs.lemmas.Slice.Eq.{bytes_eq-Decides}
@@ -11,7 +11,7 @@ use Rattle.lines.specs.declared.key.Key.{Key}
 use Rattle.lines.specs.declared.key.Key.TheVariants.{Side, First, Parts, Rules, Rows, End, Left, Right, Points, Edges, Moves, Move}
 use Rattle.lines.specs.Keys.{name, keys, named_in, named}
 use Rattle.lines.specs.Reading.{State, at, cut}
-use Rattle.lines.specs.Lines.{Said, said, with_key, with_value, with_end, next, strip, valued, fielded, field, line}
+use Rattle.lines.specs.Lines.{Said, said, with_key, with_value, with_end, next, strip, valued, fielded, field}
 use Rattle.lines.proofs.Splits.{Clear, some_same, cut_sound, cut_complete, strip_sound, strip_complete, clear_after}
 
 pub ok_same : {X : Type 0} {x y : X} → ◌≡◌ {A = Result X Fault} (Ok x) (Ok y) → x ≡ y
@@ -205,15 +205,3 @@ next_no_value s l r e f = ap (λ o. with_value o r s.line) f ∙ ap (λ o. with_
 pub next_keyed : (s : State) (l r w v : List ℕ) (o : Option Key) → Some (l, r) ≡ cut 10 s.rest → Some (w, v) ≡ cut 61 l → o ≡ named w → with_key o v r s.line ≡ next s
 unfolding next
 next_keyed s l r w v o e f g = ap (λ o. with_key o v r s.line) g ∙ (ap (λ o. with_value o r s.line) f ∙ ap (λ o. with_end o s.line) e)
-
--- what `!=` answered
-pub differ_said : {P : Type 0} {r : Bool} (x : Bool) → cond x P (P → ⊥) → r ≡ not x → r ≡ true → P → ⊥
-differ_said true h q t p = let z : ◌≡◌ {A = Bool} true false = sym t ∙ q in true_false z
-  where
-    true_false : ◌≡◌ {A = Bool} true false → ⊥
-    true_false e = let z : ◌≡◌ {A = ℕ} 0 1 = cc in omega arith
-differ_said false h q t p = h p
-
-pub same_said : {P : Type 0} {r : Bool} (x : Bool) → cond x P (P → ⊥) → r ≡ not x → r ≡ false → P
-same_said true h q f = h
-same_said false h q f = let z : ◌≡◌ {A = ℕ} 0 1 = cc in absurd (omega arith)

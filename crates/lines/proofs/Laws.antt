@@ -11,7 +11,7 @@ use Rattle.lines.specs.Keys.{name}
 use Rattle.lines.specs.Reading.{then, State, at, Reading, done, ◌>>=◌, times, walk, Along, onto, starts}
 use Rattle.lines.specs.Lines.{field, entry, form, line, either, is_next}
 use Rattle.lines.specs.Seen.{seen, gave}
-use Rattle.lines.proofs.Splits.{Clear, some_same}
+use Rattle.lines.proofs.Splits.{Clear}
 use Rattle.lines.proofs.Fields.{ok_same, err_ok, field_sound, field_complete, worded}
 
 pub then_ok : {X Y : Type 0} (r : Result X Fault) (f : X → Result Y Fault) (y : Y) → then r f ≡ Ok y → (x : X) × (r ≡ Ok x) × (f x ≡ Ok y)

@@ -1,13 +1,13 @@
 -- One of two readings, by the key of the next line.
-use Rattle.std.proofs.Common.{◌≡◌, ℕ, Bool, true, false, cond, ◌&&◌, eqb, List, [], ◌∷◌, ◌++◌, Some, None, Ok, Err, codes, Option, Result, sym, refl, ap, ◌∙◌, subst, arith}
+use Rattle.std.proofs.Common.{◌≡◌, ℕ, Bool, true, false, cond, eqb, List, [], ◌∷◌, ◌++◌, Some, Ok, codes, Result, sym, refl, ap, ◌∙◌}
 use Rattle.std.proofs.lemmas.Bool.{eqb-true, eq-eqb, and_parts, and_from, cond-true, cond-false}
 use Rattle.terms.specs.declared.fault.Fault.{Fault}
 use Rattle.lines.specs.declared.key.Key.{Key}
 use Rattle.lines.specs.Keys.{name}
 use Rattle.lines.specs.Reading.{State, Reading, cut, starts}
-use Rattle.lines.specs.Lines.{Said, with_end, next, strip, valued, fielded, field, either, is_next}
+use Rattle.lines.specs.Lines.{Said, next, strip, valued, fielded, field, either, is_next}
 use Rattle.lines.proofs.Splits.{Clear, cut_sound}
-use Rattle.lines.proofs.Fields.{err_ok, ok_same, name_clear, next_field, field_sound, field_next, with_end_ok}
+use Rattle.lines.proofs.Fields.{ok_same, name_clear, next_field, field_sound, field_next, with_end_ok}
 
 pub starts_itself : (p r : List ℕ) → starts p (p ++ r) ≡ true
 starts_itself [] r = refl

@@ -4,7 +4,7 @@
 
 ghost use Rattle.std.specs.Prelude.{◌≡◌, ℕ, ◌+◌, ◌^◌, ◌<◌, ◌≤◌, length};
 ghost use Rattle.numbers.specs.Laws.{NaturalExact, IntegerExact, Ordered};
-ghost use Rattle.numbers.specs.Numbers.{natural, integer, capped, upto, within, below_zero, above_zero, less_text, lower as first-lower, judged};
+ghost use Rattle.numbers.specs.Numbers.{natural, integer, capped, upto, within, below_zero, above_zero, less_text, lower as first_lower, judged};
 
 use terms::{Fault, Refusal};
 
@@ -81,7 +81,7 @@ pub fn is_less(a: &[u8], b: &[u8]) -> bool
 // Of two texts as long as one another, whether the first is lower where they first differ.
 fn is_lower(a: &[u8], b: &[u8]) -> bool
     requires { length a.now ≡ length b.now }
-    ensures { result ≡ first-lower a.now b.now }
+    ensures { result ≡ first_lower a.now b.now }
 {
     for i in 0..a.len() {
         if a[i] != b[i] {

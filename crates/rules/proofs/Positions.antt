@@ -5,7 +5,7 @@ use Rattle.terms.specs.declared.side.Side.{Side}
 use Rattle.terms.specs.declared.side.Side.TheVariants.{Left, Right}
 use Rattle.terms.specs.Sides.{pick}
 use Rattle.theory.specs.Limits.{option_limit}
-use Rattle.theory.specs.Trees.{Tree, ended, one, trees, options, Score, Lawful, LawfulF}
+use Rattle.theory.specs.Trees.{Tree, ended, trees, options, Score, Lawful, LawfulF}
 use Rattle.rules.specs.Meaning.{score_of}
 use Rattle.rules.specs.Positions.{forest, position}
 

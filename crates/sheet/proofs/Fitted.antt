@@ -15,7 +15,7 @@ use Rattle.encoding.specs.Columns.{part_limit}
 use Rattle.stories.specs.declared.turn.Turn.TheVariants.{Over}
 use Rattle.stories.specs.Game.{Game, Advises, not_ours, floor_of, bracket_of}
 use Rattle.stories.specs.Stories.{Sum, Story, our_side, sum_after, game_after}
-use Rattle.stories.proofs.Fits.{Fit, fit_over, fit_ours, fit_theirs, fit_ends, not_ours}
+use Rattle.stories.proofs.Fits.{Fit, fit_over, fit_ours, fit_theirs, fit_ends, not_ours_lem}
 use Rattle.stories.proofs.Goes.{one_advised, advised_only}
 use Rattle.stories.proofs.Places.{none_some}
 use Rattle.stories.proofs.Promise.{fits, promise}
@@ -83,7 +83,7 @@ advice_there s g z (fit_over xs w a d f e) = (None, (GameOver, refl))
 advice_there s g z (fit_theirs xs a f h) = (None, (NotOurTurn, refl))
 advice_there s g z (fit_ours xs a d f h r) =
     let F = fit_ours xs a d f h r in
-    let (p, k, A) = one_advised s g z F refl (λ e. not_ours Over (λ i. i) (sym ((fit_ends s g z F).ended e))) in
+    let (p, k, A) = one_advised s g z F refl (λ e. not_ours_lem Over (λ i. i) (sym ((fit_ends s g z F).ended e))) in
     (Some (p, k), A)
 
 pub sheet_there : (st : Story) → (s : Sheet) × Sheets (game_after st) s

@@ -5,7 +5,7 @@ use Rattle.std.proofs.Common.{ap, ap₂, sym, ◌∙◌, inl, inr, arith}
 use Rattle.std.proofs.lemmas.List.{length-map}
 use Rattle.std.proofs.lemmas.Int.{ints}
 use Rattle.std.proofs.lemmas.Bool.{true≢false, cases_Bool, cases_eq, and_parts, and_from, and_left, and_right, and_cases, or_parts, or_from, or_right, not-true, not_from_true, not_from_false, ltb-true, lt-ltb, eq-eqb, ne_eqb}
-use Rattle.theory.specs.Trees.{Tree, ended, options, at, Score, Lawful}
+use Rattle.theory.specs.Trees.{Tree, ended, Score, Lawful}
 use Rattle.rules.specs.Positions.{position}
 use Rattle.rules.proofs.Options.{map_same, all_map}
 use Rattle.rules.proofs.Positions.{ended_left, lawful_position}

@@ -1,5 +1,5 @@
 -- The clauses of the definitions, as equations for other crates: what an ended and an open tree have, and the best of a list of options.
-use Rattle.std.proofs.Common.{◌≡◌, ℕ, min, List, [], ◌∷◌, ℤ, pos, ◌-ℤ◌, ◌*ℤ◌, neg_ℤ, refl, ap, ◌∙◌}
+use Rattle.std.proofs.Common.{◌≡◌, ℕ, min, [], ◌∷◌, ℤ, pos, ◌*ℤ◌, neg_ℤ, refl, ap}
 use Rattle.std.specs.Int.{int_max}
 use Rattle.terms.specs.declared.side.Side.{Side}
 use Rattle.terms.specs.declared.side.Side.TheVariants.{Left, Right}

@@ -7,7 +7,6 @@ use Rattle.theory.specs.Trees.{Tree}
 use Rattle.theory.specs.Fair.{Fair}
 use Rattle.theory.specs.Walls.{wall}
 use Rattle.theory.specs.Sums.{All, span, hottest}
-use Rattle.theory.specs.Sente.{idle}
 use Rattle.theory.specs.Laws.{FloorNeverFalls, OpeningLoss, FloorIsSure}
 use Rattle.theory.proofs.Parts.{sum_put, all_at}
 use Rattle.theory.proofs.Sente as sente

@@ -13,7 +13,7 @@ use Rattle.theory.specs.Stops.{stop, stop_f, Warm, WarmF}
 use Rattle.theory.specs.Fair.{Fair}
 use Rattle.theory.specs.Walls.{meeting, wall, scaffold, temperature, mean}
 use Rattle.theory.specs.Laws.{ScaffoldsMeet, WallsSlope}
-use Rattle.theory.proofs.Grid.{Div, div_down, div_neg, Fall, still, falls, fall_turn, fall_same, fall_within, fall_max, fall_meet, fall_down, fall_start, points}
+use Rattle.theory.proofs.Grid.{Div, div_down, div_neg, Fall, still, fall_turn, fall_same, fall_within, fall_max, fall_meet, fall_down, fall_start, points}
 use Rattle.theory.proofs.Search.{least_before, least_passes}
 
 -- ---- a scaffold, in its side's terms

@@ -9,7 +9,7 @@ use Rattle.walls.specs.Pieces.{climb, Linear, Tame, Ranged}
 use Rattle.walls.proofs.Straight.{linear_at}
 use Rattle.thermographs.specs.declared.figures.Figures.{Figures}
 use Rattle.thermographs.specs.Figures.{blank}
-use Rattle.thermographs.specs.Near.{near, best, SoundNear}
+use Rattle.thermographs.specs.Near.{best, SoundNear}
 use Rattle.thermographs.proofs.Best.{best_one, best_cons}
 
 -- the best of near walls in range is in range

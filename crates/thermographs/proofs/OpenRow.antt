@@ -6,7 +6,6 @@ use lib.Seq.{paste}
 use Rattle.terms.specs.declared.side.Side.TheVariants.{Left, Right}
 use Rattle.theory.specs.Limits.{unit}
 use Rattle.theory.specs.Trees.{Tree, Forest, ended, branch}
-use Rattle.theory.specs.Walls.{temperature, mean}
 use Rattle.theory.specs.Corners.{Ordered, corners_of}
 use Rattle.theory.proofs.Clauses.{ended_wall, ended_temperature, ended_mean, ended_corners}
 use Rattle.theory.proofs.Corners.{wall_corners}

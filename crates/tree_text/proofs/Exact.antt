@@ -1,8 +1,7 @@
 -- A tree part is read as it is written, and as nothing else.
-use Rattle.std.proofs.Common.{◌≡◌, ℕ, zero, suc, ◌+◌, ◌-◌, ◌<◌, ◌≤◌, Bool, true, false, cond, ltb, leb, ◌⊎◌, List, [], ◌∷◌, ◌++◌, length, ℤ, pos, negsuc, neg_ℤ, ◌≤ℤ◌, Some, None, Ok, Err, codes, Option, Result, sym, refl, ap, ◌∙◌, subst, inl, inr, append_assoc, arith}
+use Rattle.std.proofs.Common.{◌≡◌, ℕ, zero, suc, ◌-◌, ◌<◌, ◌≤◌, Bool, true, false, cond, ltb, leb, ◌⊎◌, List, ◌++◌, ℤ, pos, negsuc, Some, None, Ok, Err, codes, Option, sym, refl, ap, ◌∙◌, subst, inl, inr, append_assoc, arith}
 use Rattle.std.proofs.lemmas.Int.{ints}
 use Rattle.std.proofs.lemmas.Bool.{cond-true, leb-true, le-leb, lt-ltb}
-use Rattle.terms.specs.declared.fault.Fault.{Fault}
 use Rattle.terms.specs.declared.fault.Refusal.TheVariants.{TreeTooLarge}
 use Rattle.terms.specs.Refusals.{fault}
 use Rattle.theory.specs.Limits.{score_limit}
@@ -13,8 +12,8 @@ use Rattle.numbers.proofs.Written.{none_some, integer_exact, integer_decimal}
 use Rattle.numbers.proofs.Capped.{in_range_small, in_range_is}
 use Rattle.lines.specs.declared.key.Key.TheVariants as key
 use Rattle.lines.specs.Keys.{name}
-use Rattle.lines.specs.Reading.{Reading, State, at, then, starts, walk, done}
-use Rattle.lines.specs.Lines.{entry, form, line, either}
+use Rattle.lines.specs.Reading.{at, then, starts}
+use Rattle.lines.specs.Lines.{entry, form, line}
 use Rattle.lines.proofs.Splits.{Clear, some_same}
 use Rattle.lines.proofs.Fields.{ok_same, err_ok}
 use Rattle.lines.proofs.Laws.{Whole, Reads, then_ok, then_run, entry_reads, form_whole, map_reads, either_reads, reads_as, counted_walk}

@@ -1,5 +1,5 @@
 -- Lists of row numbers: what is read is what is written, and the turns of the loops that read them.
-use Rattle.std.proofs.Common.{◌≡◌, ℕ, suc, ◌+◌, ◌<◌, ◌≤◌, Bool, true, false, cond, ◌&&◌, ltb, leb, List, [], ◌∷◌, ◌++◌, map, length, get_or, drop, Some, None, Ok, Err, Option, Result, sym, refl, ap, ◌∙◌, subst, append-nil, arith, length-append}
+use Rattle.std.proofs.Common.{◌≡◌, ℕ, ◌+◌, ◌<◌, ◌≤◌, Bool, true, false, cond, ◌&&◌, ltb, leb, List, [], ◌∷◌, ◌++◌, map, length, get_or, drop, Some, None, Ok, Err, Option, refl, ap, ◌∙◌, subst, append-nil, arith, length-append}
 use Rattle.std.specs.List.{AllByRecursion as All}
 use Rattle.std.proofs.lemmas.List.{at_drop_more, at_drop_all}
 use Rattle.std.proofs.ByRecursion.{All-map}
@@ -11,14 +11,14 @@ use Rattle.theory.specs.Limits.{option_limit}
 use Rattle.numbers.specs.Numbers.{written, upto, judged}
 use Rattle.numbers.proofs.Written.{none_some}
 use Rattle.lines.specs.Reading.{then}
-use Rattle.lines.specs.Commas.{pieces, commas, both, all_of, begun}
+use Rattle.lines.specs.Commas.{pieces, both, all_of, begun}
 use Rattle.lines.proofs.Splits.{Clear, some_same}
 use Rattle.lines.proofs.Fields.{ok_same, err_ok, err_same}
 use Rattle.lines.proofs.Laws.{Whole, then_ok}
 use Rattle.lines.proofs.Counts.{upto_sound, upto_complete, written_clear}
 use Rattle.lines.proofs.Commas.{list_sound, list_complete, commas_clear}
 use Rattle.tree_text.specs.declared.place.Place.{Place}
-use Rattle.tree_text.specs.Rows.{few, links, all_above, roomy, placed, list_of, links_text, GoodLinks}
+use Rattle.tree_text.specs.Rows.{few, links, all_above, placed, list_of, links_text, GoodLinks}
 
 few_some : (o : Option (List ℕ)) (xs : List ℕ) → few o ≡ Some xs → (length xs ≤ option_limit) × (o ≡ Some xs)
 few_some None xs e = none_some e

@@ -5,12 +5,11 @@ use Rattle.terms.specs.declared.fault.Refusal.TheVariants.{WrongLine}
 use Rattle.terms.specs.Refusals.{fault}
 use Rattle.theory.specs.Limits.{score_limit}
 use Rattle.numbers.specs.Numbers.{judged, within}
-use Rattle.lines.specs.declared.key.Key.{Key}
 use Rattle.lines.specs.declared.key.Key.TheVariants as key
 use Rattle.lines.specs.declared.key.Line.{Line}
 use Rattle.lines.specs.declared.key.Line.TheVariants as lined
 use Rattle.lines.specs.Reading.{State, then}
-use Rattle.lines.specs.Lines.{Said, said, next, field, entry, form, key_of, value_of}
+use Rattle.lines.specs.Lines.{Said, said, next, form, key_of, value_of}
 use Rattle.lines.proofs.Fields.{next_stops, other_key, same_key}
 use Rattle.lines.proofs.Laws.{entry_stops}
 use Rattle.lines.proofs.Turns.{next_is, next_other, either_first, either_second, either_same}

@@ -1,5 +1,5 @@
 -- The rows of a tree as a job writes them.
-use Rattle.std.specs.Prelude.{◌≡◌, ℕ, zero, suc, ◌+◌, ◌-◌, ◌<◌, ◌≤◌, Bool, true, false, cond, ◌&&◌, List, [], ◌∷◌, ◌++◌, map, length, ℤ, Some, None, Ok, Err, Option, Result, nat_le, nat_lt}
+use Rattle.std.specs.Prelude.{ℕ, zero, suc, ◌+◌, ◌-◌, ◌<◌, ◌≤◌, Bool, true, cond, ◌&&◌, List, [], ◌∷◌, ◌++◌, map, length, ℤ, Some, None, Ok, Err, Option, Result, nat_le, nat_lt}
 use Rattle.std.specs.List.{flat_map, AllByRecursion as All}
 use Rattle.terms.specs.declared.fault.Fault.{Fault}
 use Rattle.terms.specs.declared.fault.Refusal.TheVariants.{RowNotAbove, TreeTooLarge}
@@ -7,7 +7,7 @@ use Rattle.terms.specs.Refusals.{fault}
 use Rattle.theory.specs.Limits.{score_limit, option_limit}
 use Rattle.theory.specs.Trees.{Score}
 use Rattle.trees.specs.Written.{row_limit}
-use Rattle.numbers.specs.Numbers.{natural, written, decimal, upto, within, judged}
+use Rattle.numbers.specs.Numbers.{written, decimal, upto, within, judged}
 use Rattle.lines.specs.declared.key.Key.{Key}
 use Rattle.lines.specs.declared.key.Key.TheVariants as key
 use Rattle.lines.specs.Reading.{Reading, then, done, ◌>>=◌, walk, Along}

@@ -5,7 +5,6 @@ use Rattle.trees.specs.declared.row.TreeRow.{TreeRow}
 use Rattle.trees.specs.declared.row.PickRun.{PickRun}
 use Rattle.trees.specs.Written.{empty, blank, pick_limit}
 use Rattle.lines.specs.Reading.{State, walk}
-use Rattle.tree_text.specs.declared.place.Place.{Place}
 use Rattle.tree_text.specs.Rows.{Row, leaf, fork, after_row, picked, top, row_lines, tree_lines}
 
 abbrev pub run : ℕ → List ℕ → PickRun

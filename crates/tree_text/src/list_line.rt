@@ -1,7 +1,7 @@
 ghost use Rattle.std.specs.Prelude.{◌≡◌, ℕ, ◌+◌, ◌-◌, ◌<◌, ◌≤◌, Bool, true, false, cond, length};
 ghost use Rattle.numbers.specs.Numbers.{judged, upto};
 ghost use Rattle.lines.specs.Seen.{seen};
-ghost use Rattle.tree_text.specs.Rows.{links, all_above, list_of as list_of, list_line};
+ghost use Rattle.tree_text.specs.Rows.{links, all_above, list_of, list_line};
 ghost use Rattle.tree_text.specs.Seen.{listed, linked, gave_links, FitsRoom};
 
 use crate::links::Links;

@@ -12,7 +12,7 @@ use Rattle.terms.specs.declared.side.Side.{Side}
 use Rattle.terms.specs.declared.side.Side.TheVariants.{Left, Right}
 use Rattle.terms.specs.Sides.{pick}
 use Rattle.theory.specs.Limits.{option_limit}
-use Rattle.theory.specs.Trees.{Tree, ended, one, trees, options, at, Score, Lawful}
+use Rattle.theory.specs.Trees.{Tree, ended, options, at, Score, Lawful}
 use Rattle.rules.specs.Meaning.{known_in, score_of, score_in, options_in, Names, LawfulIn}
 use Rattle.rules.specs.Positions.{position}
 use Rattle.rules.proofs.Options.{at_past, at_map, map_same, map_map, some_apart, all_map, same_tree}

@@ -1,7 +1,7 @@
 -- Going along a wall whose corners are ds, from one straight part to the next: what has been written is the front of ds.
 use Rattle.std.proofs.Common.{◌≡◌, ℕ, zero, suc, ◌+◌, ◌-◌, ◌%◌, ◌<◌, ◌≤◌, Bool, true, false, ◌⊎◌, List, length, get_or, sym, refl, ap, ◌∙◌, subst, inl, inr, arith}
 use Rattle.std.proofs.lemmas.Bool.{cases_lt, cases_eq, lt-ltb}
-use Rattle.theory.specs.Corners.{Ordered, above, step}
+use Rattle.theory.specs.Corners.{Ordered, step}
 use Rattle.theory.proofs.Rising.{ascends}
 use Rattle.walls.specs.Pieces.{bit}
 use Rattle.walls.specs.Turns.{turns}

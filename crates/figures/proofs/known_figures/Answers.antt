@@ -1,8 +1,7 @@
-use Rattle.std.proofs.Common.{◌≡◌, refl}
+use Rattle.std.proofs.Common.{refl}
 use Rattle.theory.proofs.Figures.{worked_figures_lem}
 use Rattle.snort.specs.Play.{snort_tree, tree_within}
-use Rattle.masks.specs.Masks.{has, members, some_below}
-use Rattle.rules.specs.Positions.{position, forest}
+use Rattle.masks.specs.Masks.{has, members}
 use Rattle.figures.proofs.known_figures.Goals as goal
 
 pub returns : goal.returns

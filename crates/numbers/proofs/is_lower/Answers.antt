@@ -1,4 +1,4 @@
-use Rattle.std.proofs.Common.{◌≡◌, sym, ◌∙◌, arith}
+use Rattle.std.proofs.Common.{sym, ◌∙◌, arith}
 use Rattle.numbers.proofs.Orders.{lower_same, lower_differ, lower_end}
 use Rattle.numbers.proofs.is_lower.Goals as goal
 

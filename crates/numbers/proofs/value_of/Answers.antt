@@ -1,4 +1,4 @@
-use Rattle.std.proofs.Common.{◌⊎◌, sym, ◌∙◌, inl, inr, arith, rules}
+use Rattle.std.proofs.Common.{sym, ◌∙◌, inl, inr, arith}
 use Rattle.numbers.proofs.Capped.{one_more, no_digit, at_end}
 use Rattle.numbers.proofs.value_of.Goals as goal
 use Rattle.numbers.proofs.value_of.Goals.{then-b-lt48-via-then-b-lt48, then-b-lt48-via-else-b-lt48+then-b-gt57}

@@ -1,4 +1,4 @@
-use Rattle.std.proofs.Common.{◌≡◌, length, take, sym, arith}
+use Rattle.std.proofs.Common.{length, sym, arith}
 use Rattle.std.proofs.lemmas.List.{length-take}
 use Rattle.spreading.proofs.Taken.{known_tree, taken_rows, taken_sound}
 use Rattle.bank.proofs.Causes.{lacks_height, lacks_warmth, lacks_corners, lawful_of, fair_of}

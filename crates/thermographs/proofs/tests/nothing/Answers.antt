@@ -6,7 +6,7 @@ use Rattle.thermographs.proofs.Worked.{score, switch_fair, switch_rows}
 use Rattle.thermographs.proofs.tests.nothing.Goals as goal
 
 pub figure_rows-requires : goal.figure_rows-requires
-figure_rows-requires c = record {
+figure_rows-requires c c' = record {
   seated = (
     switch (ended (pos 0)) (ended (pos 0)),
     switch_fair (pos 0) (pos 0) (score 0 (omega arith)) (score 0 (omega arith)) (omega (arith, ints)),

@@ -1,11 +1,11 @@
-use Rattle.std.proofs.Common.{◌≡◌, ◌+◌, ◌≤◌, [], ◌∷◌, ◌++◌, length, take, Some, Ok, Err, sym, ap, ◌∙◌, arith, length-append, length-set, length-take}
+use Rattle.std.proofs.Common.{◌≡◌, ◌≤◌, [], ◌∷◌, ◌++◌, length, take, Ok, Err, sym, ap, ◌∙◌, arith, length-append, length-set, length-take}
 use Rattle.std.proofs.lemmas.List.{take_more_set}
 use Rattle.std.proofs.lemmas.Result.{err_from_is_err_and}
 use Rattle.numbers.specs.Numbers.{upto, judged}
 use Rattle.lines.specs.Commas.{begun, all_of, pieces}
 use Rattle.lines.proofs.Splits.{cut_shorter}
 use Rattle.lines.proofs.Commas.{pieces_cut, pieces_last, begun_more, begun_stops}
-use Rattle.tree_text.specs.Rows.{few, links}
+use Rattle.tree_text.specs.Rows.{few}
 use Rattle.tree_text.proofs.Lists.{begun_full, few_begun, judged_err, judged_ok}
 use Rattle.tree_text.proofs.list_line.read_links.Goals as goal
 

@@ -1,4 +1,4 @@
-use Rattle.std.proofs.Common.{◌≡◌, List, length, get_or, ap, ◌∙◌}
+use Rattle.std.proofs.Common.{List, length, get_or, ap, ◌∙◌}
 use Rattle.trees.specs.declared.row.TreeRow.{TreeRow}
 use Rattle.trees.specs.Written.{blank}
 use Rattle.tree_text.proofs.Cells.{replicated}

@@ -1,4 +1,4 @@
-use Rattle.std.proofs.Common.{◌≡◌, ℕ, ◌+◌, ◌<◌, List, ◌++◌, length, take, sym, ap, subst, arith, length-set}
+use Rattle.std.proofs.Common.{◌≡◌, ◌++◌, take, subst, arith}
 use Rattle.tree_text.specs.Written.{Content}
 use Rattle.tree_text.proofs.Cells.{copied_more}
 use Rattle.tree_text.proofs.tree.copy.Goals as goal

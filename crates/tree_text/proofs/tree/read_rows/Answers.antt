@@ -1,10 +1,8 @@
-use Rattle.std.proofs.Common.{◌≡◌, ℕ, suc, ◌+◌, ◌-◌, ◌<◌, ◌≤◌, List, [], ◌∷◌, ◌++◌, length, sym, refl, ap, ◌∙◌, subst, arith, length-append}
+use Rattle.std.proofs.Common.{◌≡◌, ◌+◌, ◌-◌, ◌≤◌, [], ◌∷◌, ◌++◌, length, refl, ap, ◌∙◌, arith, length-append}
 use Rattle.std.proofs.lemmas.Result.{err_from_is_err_and}
-use Rattle.lines.specs.Reading.{walk, onto}
 use Rattle.lines.specs.Seen.{seen}
-use Rattle.tree_text.specs.Rows.{Row, row_lines, after_row, top, picked}
+use Rattle.tree_text.specs.Rows.{after_row, top, picked}
 use Rattle.tree_text.specs.Seen.{as_row, picks_in}
-use Rattle.tree_text.specs.Written.{ReadRows}
 use Rattle.tree_text.proofs.Cells.{holds_none, holds_push, used_is, turn_more, turn_stops, turn_first, turn_last, led_push}
 use Rattle.tree_text.proofs.tree.read_rows.Goals as goal
 

@@ -1,4 +1,4 @@
-use Rattle.std.proofs.Common.{◌≡◌, ℕ, ◌-◌, ◌≤◌, List, [], ◌++◌, length}
+use Rattle.std.proofs.Common.{◌≡◌, ◌-◌, ◌≤◌, List, length}
 use Rattle.lines.specs.Reading.{walk, onto, led}
 use Rattle.lines.specs.Seen.{seen}
 use Rattle.tree_text.specs.Rows.{Row, row_lines, after_row, top}

@@ -1,5 +1,5 @@
 use Rattle.std.proofs.Common.{[]}
 use Rattle.bank.proofs.bank.Bank.empty.Goals as goal
 
-pub invariant-of-result : goal.invariant-of-result
-invariant-of-result c = (c.blank.ensures.within, (∣ ([], c.blank.ensures.held) ∣₁, tt))
+pub invariant_of-result : goal.invariant_of-result
+invariant_of-result c = record { within = c.blank.ensures.within; filled = ∣ ([], c.blank.ensures.held) ∣₁ }

@@ -12,8 +12,7 @@ pub returns-in-Left : goal.returns-in-Left
 returns-in-Left c =
     let ts = trees c.args.self.now in
     let x = row (get_or ts c.args.part none) c.args.row in
-    let e : c.left_at.result ≡ left_wall x c.args.t =
-    c.left_at.ensures ∙ (c.diagram-diagram.ensures.present (get_or ts c.args.part none) (at_there ts c.args.part c.requires.part) c.requires.line).left c.args.t in
+    let e = (c.diagram-diagram.ensures.present (get_or ts c.args.part none) (at_there ts c.args.part c.requires.part) c.requires.line).left c.args.t in
     let q : left_wall x c.args.t ≡ pick c.args.side (left_wall x c.args.t) (right_wall x c.args.t) = ap (λ (s : Side). pick s (left_wall x c.args.t) (right_wall x c.args.t)) (sym c.in-Left.is) in
     ◌∙◌ {b = left_wall x c.args.t} (omega (arith, ints)) q
 
@@ -21,7 +20,6 @@ pub returns-in-Right : goal.returns-in-Right
 returns-in-Right c =
     let ts = trees c.args.self.now in
     let x = row (get_or ts c.args.part none) c.args.row in
-    let e : c.right_at.result ≡ right_wall x c.args.t =
-    c.right_at.ensures ∙ (c.diagram-diagram.ensures.present (get_or ts c.args.part none) (at_there ts c.args.part c.requires.part) c.requires.line).right c.args.t in
+    let e = (c.diagram-diagram.ensures.present (get_or ts c.args.part none) (at_there ts c.args.part c.requires.part) c.requires.line).right c.args.t in
     let q : right_wall x c.args.t ≡ pick c.args.side (left_wall x c.args.t) (right_wall x c.args.t) = ap (λ (s : Side). pick s (left_wall x c.args.t) (right_wall x c.args.t)) (sym c.in-Right.is) in
     ◌∙◌ {b = right_wall x c.args.t} (omega (arith, ints)) q

@@ -1,4 +1,4 @@
-use Rattle.std.proofs.Common.{◌≡◌, sym, arith}
+use Rattle.std.proofs.Common.{sym, arith}
 use Rattle.spreading.specs.Shapes.{row_limit}
 use Rattle.spreading.proofs.Taken.{known_tree}
 use Rattle.thermographs.specs.Figures.{corner_limit}

@@ -14,8 +14,8 @@ use Rattle.game.proofs.game.Game.open.Goals as goal
 pub greatest_heat-hottest-requires : goal.greatest_heat-hottest-requires
 greatest_heat-hottest-requires c = first_rows part_limit (trees c.args.bank.now)
 
-pub invariant-of-result : goal.invariant-of-result
-invariant-of-result c =
+pub invariant_of-result : goal.invariant_of-result
+invariant_of-result c =
     let b = c.args.bank.now in
     let e = c.greatest_heat-hottest.ensures ∙ ap hottest_of (present_first part_limit (trees b) (few_parts b)) in
     let wide : length (trees b) ≤ length c.open.result.rows = omega (arith, ap length c.open.ensures.rows, length-replicate {A = ℕ} part_limit 0, few_parts b) in

@@ -8,8 +8,8 @@ use Rattle.game.proofs.game.Game.their_reply.Goals as goal
 pub their_reply-requires : goal.their_reply-requires
 their_reply-requires c = inside_so c.args.self.now.bank.now c.landing-landing.result c.landing-landing.ensures.row
 
-pub invariant-of-self : goal.invariant-of-self
-invariant-of-self c =
+pub invariant_of-self : goal.invariant_of-self
+invariant_of-self c =
     let y = c.args.self.now.play in
     let ts = trees c.args.self.now.bank.now in
     let s = c.args.self.now.side in

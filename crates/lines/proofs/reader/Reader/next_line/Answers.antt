@@ -1,4 +1,4 @@
-use Rattle.std.proofs.Common.{◌≡◌, ◌+◌, Ok, sym, ap, ◌∙◌, arith}
+use Rattle.std.proofs.Common.{◌+◌, Ok, ◌∙◌, arith}
 use Rattle.lines.specs.Seen.{seen}
 use Rattle.lines.specs.Lines.{said}
 use Rattle.lines.specs.Reading.{at}
@@ -15,8 +15,8 @@ returns-in_default-cut c = next_no_value (seen c.args.self.now) _ _ c.in-Some.en
 pub returns-in_default-key_named : goal.returns-in_default-key_named
 returns-in_default-key_named c = next_keyed (seen c.args.self.now) _ _ _ _ _ c.in-Some.ensures c.in-Some-cut.ensures c.in_default-key_named.ensures
 
-pub invariant-of-self : goal.invariant-of-self
-invariant-of-self c = (omega (arith, c.args.self.now.short, cut_shorter 10 c.args.self.now.rest.now _ _ c.in-Some.ensures), tt)
+pub invariant_of-self : goal.invariant_of-self
+invariant_of-self c = record { short = omega (arith, c.args.self.now.short, cut_shorter 10 c.args.self.now.rest.now _ _ c.in-Some.ensures) }
 
 pub returns : goal.returns
 returns c =

@@ -1,7 +1,9 @@
-use Rattle.std.proofs.Common.{◌≡◌, Ok, sym, ap, ◌∙◌, arith}
+use Rattle.std.proofs.Common.{Ok, sym, ap, ◌∙◌}
 use Rattle.lines.specs.Seen.{seen}
 use Rattle.std.proofs.lemmas.Result.{err_from_is_err_and}
-use Rattle.lines.proofs.Fields.{next_stops, other_key, same_key, differ_said, same_said}
+use denote.Enum.Bare.{differs_true, differs_false}
+use Rattle.lines.specs.contracts.key.Key.{the_type}
+use Rattle.lines.proofs.Fields.{next_stops, other_key, same_key}
 use Rattle.lines.proofs.reader.Reader.value.Goals as goal
 
 pub returns-in_err-line : goal.returns-in_err-line
@@ -12,10 +14,10 @@ returns-in_err-line c =
 pub returns-then-ne : goal.returns-then-ne
 returns-then-ne c =
     other_key c.args.key (seen c.args.self.now) _ _ c.in_ok-line.ensures
-    (λ e. differ_said c.ne.ensures.0 c.ne.ensures.1 c.ne.ensures.2 c.if-ne.true (c.parts-found.ensures.key ∙ e))
+    (λ e. differs_true the_type _ _ (sym c.ne.ensures ∙ c.if-ne.true) (c.parts-found.ensures.key ∙ e))
 
 pub returns : goal.returns
 returns c =
     ap (λ v. Ok ((v, c.in_ok-line.number), seen c.next_line.new.self)) c.parts-found.ensures.value
     ∙ same_key c.args.key (seen c.args.self.now) _ _ c.in_ok-line.ensures
-    (sym c.parts-found.ensures.key ∙ same_said c.ne.ensures.0 c.ne.ensures.1 c.ne.ensures.2 c.if-ne.false)
+    (sym c.parts-found.ensures.key ∙ differs_false the_type tt _ _ (sym c.ne.ensures ∙ c.if-ne.false))

@@ -8,22 +8,19 @@ use Rattle.snort.proofs.Edges.{joined_fits, within_more, loopless_more, symmetri
 use Rattle.snort.specs.Codes.{by_the_rules}
 use Rattle.snort.proofs.map.Snort.join.Goals as goal
 
-pub invariant-of-self : goal.invariant-of-self
-invariant-of-self c =
+pub invariant_of-self : goal.invariant_of-self
+invariant_of-self c =
     let old = c.args.self.now in
     let long : length c.args.self.now.near ≡ 12 = search rules in
     let ok-a = c.if-a-points.false in
     let ok-b = c.if-b-points.false in
-    let ne = c.if-a-b.false in (
-      c.args.self.now.size,
-      (
-        within_more c.args.self.now.points c.args.self.now.near c.args.a c.args.b c.args.self.now.size.1 long ok-a ok-b ne c.args.self.now.within,
-        (
-          loopless_more c.args.self.now.points c.args.self.now.near c.args.a c.args.b c.args.self.now.size.1 long ok-a ok-b ne c.args.self.now.loopless,
-          (symmetric_more c.args.self.now.points c.args.self.now.near c.args.a c.args.b c.args.self.now.size.1 long ok-a ok-b ne c.args.self.now.symmetric, tt),
-        ),
-      ),
-    )
+    let ne = c.if-a-b.false in
+    record {
+      size = c.args.self.now.size;
+      within = within_more c.args.self.now.points c.args.self.now.near c.args.a c.args.b c.args.self.now.size.1 long ok-a ok-b ne c.args.self.now.within;
+      loopless = loopless_more c.args.self.now.points c.args.self.now.near c.args.a c.args.b c.args.self.now.size.1 long ok-a ok-b ne c.args.self.now.loopless;
+      symmetric = symmetric_more c.args.self.now.points c.args.self.now.near c.args.a c.args.b c.args.self.now.size.1 long ok-a ok-b ne c.args.self.now.symmetric;
+    }
 
 pub returns : goal.returns
 returns c =

@@ -1,5 +1,5 @@
 use Rattle.std.proofs.Common.{◌+◌, ◌≤◌, length, take, arith, rules}
-use Rattle.trees.specs.Written.{row_limit, all_above}
+use Rattle.trees.specs.Written.{row_limit}
 use Rattle.trees.specs.WrittenLemmas.{lawful_part, lent_within}
 use Rattle.trees.proofs.lent.Trees.is_lawful.Goals as goal
 
