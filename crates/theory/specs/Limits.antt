@@ -9,7 +9,7 @@ unit = 4096
 abbrev pub greatest_height : ℕ
 greatest_height = 12
 
--- scores lie from -scoreLimit to score_limit
+-- scores lie from -score_limit to score_limit
 abbrev pub score_limit : ℕ
 score_limit = 1000
 
@@ -17,6 +17,6 @@ score_limit = 1000
 abbrev pub option_limit : ℕ
 option_limit = 16
 
--- the greatest score in units: no wall of a tree within the limits leaves -wallLimit to wall_limit
+-- the greatest score in units: no wall of a tree within the limits leaves -wall_limit to wall_limit
 abbrev pub wall_limit : ℕ
 wall_limit = unit * score_limit

@@ -1,11 +1,12 @@
+-- The trees of the towers: what the four questions answer of them; and that the trees of the toys are lawful.
 use Rattle.std.specs.Prelude.{◌≡◌, ℕ, zero, suc, ◌-◌, length, pos, Some, None, ◌≢◌, refl}
-use Rattle.std.proofs.Common.{ap, ◌∙◌, arith}
+use Rattle.std.proofs.Common.{ap, ◌∙◌, arith, rules}
 use Rattle.std.proofs.lemmas.Int.{ints}
 use Rattle.theory.specs.Trees.{ended, options, at, Lawful}
-use Rattle.rules.specs.Meaning.{score_of}
+use Rattle.rules.specs.Meaning.{score_of, LawfulIn}
 use Rattle.terms.specs.declared.side.Side.{Side}
 use Rattle.terms.specs.declared.side.Side.TheVariants.{Left, Right}
-use Rattle.toys.specs.Toys.{tower}
+use Rattle.toys.specs.Toys.{tower, sample}
 
 pub count_tower : (n : ℕ) (s : Side) → (n ≢ 0) → 1 ≡ length (options (tower n) s)
 count_tower zero s h = absurd (h refl)
@@ -33,3 +34,7 @@ right_tower (suc m) k h e = ap (at (options (tower (suc m)) Right)) e
 pub lawful_tower : (n : ℕ) → Lawful (tower n)
 lawful_tower zero = (omega (arith, ints), omega (arith, ints))
 lawful_tower (suc m) = (omega arith, omega arith, lawful_tower m, (omega (arith, ints), omega (arith, ints)))
+
+-- each score is within its limit, and each list of options
+pub lawful_sample : (n : ℕ) → LawfulIn (sample n)
+lawful_sample n = search rules

@@ -1,5 +1,5 @@
 ghost use Rattle.toys.specs.Toys.{sample};
-ghost use Rattle.std.proofs.Common.{rules};
+ghost use Rattle.toys.specs.Towering.{lawful_sample};
 
 use rules::RuleSet;
 use terms::Side;
@@ -12,7 +12,7 @@ pub struct Samples;
 impl RuleSet for Samples {
     ghost tree = { λ s n. sample n };
 
-    ghost lawful = { Prim.search rules };
+    ghost lawful = { λ s n. lawful_sample n };
 
     fn known(&self, code: u32) -> bool {
         code < 5
