@@ -1,5 +1,6 @@
 -- The refusals: the number and the layer of each.
-use Rattle.std.specs.Prelude.{ℕ}
+use Rattle.std.specs.Prelude.{ℕ, List, ◌++◌, codes}
+use Rattle.std.specs.Fmt.{decimal}
 use Rattle.terms.specs.declared.fault.Layer.{Layer}
 use Rattle.terms.specs.declared.fault.Layer.TheVariants as layers
 use Rattle.terms.specs.declared.fault.Refusal.{Refusal}
@@ -54,3 +55,14 @@ layer refusals.WrongEdge = layers.Rules
 
 abbrev pub fault : Refusal → ℕ → Fault
 fault r n = record { refusal = r; line = n }
+
+-- what is printed of a layer, and of a fault
+abbrev pub layer_name : Layer → List ℕ
+layer_name layers.Text = codes "text"
+layer_name layers.Rules = codes "rules"
+layer_name layers.Seat = codes "seat"
+layer_name layers.Play = codes "play"
+layer_name layers.Sheet = codes "sheet"
+
+abbrev pub fault_lines : Fault → List ℕ
+fault_lines f = codes "fault=" ++ (decimal (number f.refusal) ++ (codes "\nlayer=" ++ (layer_name (layer f.refusal) ++ (codes "\nline=" ++ decimal f.line))))

@@ -1,5 +1,7 @@
-ghost use Rattle.std.specs.Prelude.{◌≡◌};
-ghost use Rattle.terms.specs.Refusals.{number as number_of, layer as layer_of};
+ghost use Rattle.std.specs.Prelude.{◌≡◌, Some};
+ghost use Rattle.terms.specs.Refusals.{number as number_of, layer as layer_of, fault, layer_name, fault_lines};
+
+use std::fmt;
 
 // Where a refusal comes from.
 #[derive(Clone, Copy, PartialEq, Eq, Debug)]
@@ -11,45 +13,59 @@ pub enum Layer {
     Sheet,
 }
 
-// Each way in which a call may refuse. The numbers stand in `number`.
+impl fmt::Display for Layer {
+    ghost output = { λ layer. Some (layer_name layer) };
+
+    fn fmt<W: fmt::Write>(&self, f: &mut fmt::Formatter<W>) -> fmt::Result {
+        f.write_str(match self {
+            Layer::Text => "text",
+            Layer::Rules => "rules",
+            Layer::Seat => "seat",
+            Layer::Play => "play",
+            Layer::Sheet => "sheet",
+        })
+    }
+}
+
+// Each way in which a call may refuse, with the number that is printed for it.
 #[derive(Clone, Copy, PartialEq, Eq, Debug)]
 pub enum Refusal {
     // the job is longer than a job may be
-    JobTooLong,
+    JobTooLong = 10,
     // the line has no end, or is not the next one that the job wants
-    WrongLine,
+    WrongLine = 11,
     // the value has not the form or the range of its key
-    WrongForm,
+    WrongForm = 12,
     // a tree row names a row that does not stand below it
-    RowNotAbove,
+    RowNotAbove = 13,
     // bytes follow the job's last line
-    BytesAfterJob,
+    BytesAfterJob = 14,
     // more tree rows or picks than there is room for
-    TreeTooLarge,
+    TreeTooLarge = 15,
     // the bank has all its parts
-    PartsFull,
+    PartsFull = 21,
     // the rule set does not know the code
-    UnknownCode,
+    UnknownCode = 22,
     // more rows than the bank has free
-    RowsFull,
+    RowsFull = 23,
     // more moves in a row than the units can halve
-    TooHigh,
+    TooHigh = 24,
     // moving first hurts somewhere in the tree
-    ColdPosition,
+    ColdPosition = 25,
     // more corners than the bank has free
-    CornersFull,
-    NotOurTurn,
-    GameOver,
-    NoSuchPart,
-    PartEnded,
-    NoSuchOption,
-    NotTheirTurn,
+    CornersFull = 26,
+    NotOurTurn = 31,
+    GameOver = 32,
+    NoSuchPart = 33,
+    PartEnded = 34,
+    NoSuchOption = 35,
+    NotTheirTurn = 36,
     // the output has no room for the sheet
-    OutputTooShort,
+    OutputTooShort = 41,
     // not a number of points that a map may have
-    WrongPoints,
+    WrongPoints = 51,
     // an edge off the map, or from a point to itself
-    WrongEdge,
+    WrongEdge = 52,
 }
 
 impl Refusal {
@@ -57,29 +73,7 @@ impl Refusal {
     pub fn number(self) -> u8
         ensures { result ≡ number_of self }
     {
-        match self {
-            Refusal::JobTooLong => 10,
-            Refusal::WrongLine => 11,
-            Refusal::WrongForm => 12,
-            Refusal::RowNotAbove => 13,
-            Refusal::BytesAfterJob => 14,
-            Refusal::TreeTooLarge => 15,
-            Refusal::PartsFull => 21,
-            Refusal::UnknownCode => 22,
-            Refusal::RowsFull => 23,
-            Refusal::TooHigh => 24,
-            Refusal::ColdPosition => 25,
-            Refusal::CornersFull => 26,
-            Refusal::NotOurTurn => 31,
-            Refusal::GameOver => 32,
-            Refusal::NoSuchPart => 33,
-            Refusal::PartEnded => 34,
-            Refusal::NoSuchOption => 35,
-            Refusal::NotTheirTurn => 36,
-            Refusal::OutputTooShort => 41,
-            Refusal::WrongPoints => 51,
-            Refusal::WrongEdge => 52,
-        }
+        self as u8
     }
 
     // The layer that it comes from: the tens of its number say which.
@@ -94,6 +88,16 @@ impl Refusal {
             _ => Layer::Rules,
         }
     }
+
+    // The fault of a job's line that meets it.
+    pub fn at(self, line: u32) -> Fault
+        ensures { result ≡ fault self line }
+    {
+        Fault {
+            refusal: self,
+            line,
+        }
+    }
 }
 
 // A refusal, and the line of the job that met it: 0 for a job that is too long, for an output that
@@ -102,4 +106,16 @@ impl Refusal {
 pub struct Fault {
     pub refusal: Refusal,
     pub line: u32,
+}
+
+impl fmt::Display for Fault {
+    ghost output = { λ f. Some (fault_lines f) };
+
+    // Three lines, without the end of the last.
+    fn fmt<W: fmt::Write>(&self, f: &mut fmt::Formatter<W>) -> fmt::Result {
+        let number = self.refusal.number();
+        let layer = self.refusal.layer();
+        let line = self.line;
+        write!(f, "fault={number}\nlayer={layer}\nline={line}")
+    }
 }
