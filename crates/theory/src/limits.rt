@@ -15,7 +15,8 @@ pub const SCORE_LIMIT: i16 = 1000;
 // The most options that a side has.
 pub const OPTION_LIMIT: u8 = 16;
 
-// Each as a function, whose contract says that it is the limit which the laws are stated over.
+// Each again as a function, since a constant has no contract: it says that this is the limit which the
+// laws are stated over.
 
 pub fn point_units() -> i32
     ensures { result ≡ pos unit }
