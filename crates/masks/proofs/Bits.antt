@@ -1,131 +1,67 @@
 -- The bits of masks: of 0, of a power of two, of `&` and `|`, and of sums with a power.
-use Rattle.std.proofs.Common.{◌≡◌, ℕ, zero, suc, ◌+◌, ◌-◌, ◌*◌, ◌/◌, ◌%◌, ◌^◌, ◌<◌, ◌≤◌, Bool, true, false, cond, not, ◌&&◌, ◌||◌, eqb, ltb, ◌⊎◌, length, sym, refl, ap, ◌∙◌, subst, ap₂, inl, inr, add-zero, arith}
-use lib.Bits.{bit_and, bit_or, and_shr, and_mod, or_shr, or_mod, and_mask, and_comm, and_le_l, or_disjoint, or_lt}
-use lib.Count.{ones, ones_step, ones-le}
-use Rattle.std.proofs.lemmas.Nat.{shr-shr, shr_below, mod_below, one_shl, pow-add, shl-shr, mod-mul-add, pow_below}
-use Rattle.std.proofs.lemmas.Bool.{cases_lt, cases_eq, cases_Bool, eq-eqb, ne_eqb, eqb-true, true≢false, lt-ltb, le-ltb, and_left, and_right, and_from, or_right}
+use Rattle.std.proofs.Common.{◌≡◌, ℕ, zero, suc, ◌+◌, ◌*◌, ◌/◌, ◌%◌, ◌^◌, ◌<◌, ◌≤◌, min, max, Bool, true, false, cond, not, ◌&&◌, ◌||◌, eqb, ltb, ◌⊎◌, List, [], ◌∷◌, ◌++◌, map, length, get_or, fold, filter, sym, refl, ap, ◌∙◌, subst, ap₂, inl, inr, add-zero, zero-add, arith}
+use Rattle.std.specs.List.{range_with_len}
+use Rattle.std.specs.Int.{bit_at}
+use lib.Bits.{bit_and, bit_or, and_le_l, or_disjoint, or_lt}
+use lib.Count.{ones}
+use lib.Lanes.{mask_l}
+use Rattle.std.proofs.Math.Bool.{or-false}
+use Rattle.std.proofs.lemmas.Nat.{one_shl, pow_below, pow_pos}
+use Rattle.std.proofs.lemmas.Nat.Bits.{shr_and_one, bit_at_and, bit_at_or, bit_at-zero, bit_at-lt, bit_at-pow_same, bit_at-pow_other, bit_at_above, and_pow, same_from_bits, same_from_bits_below}
+use Rattle.std.proofs.lemmas.Bool.{cases_lt, cases_eq, cases_Bool, eq-eqb, ne_eqb, eqb-false, true≢false, lt-ltb, le-ltb, and_left, and_right, and_from, or_right}
 use Rattle.std.proofs.lemmas.Bool.Decides.{nat_tests}
+use Rattle.std.proofs.lemmas.List.{get_or_past, map-id}
+use Rattle.std.proofs.lemmas.List.FromFn.{filter_of_map_range_with_len_more, get_or-map-range_with_len, length-map-range_with_len}
+use Rattle.std.proofs.lemmas.List.Sums.{length-filter, fold-append}
+use Rattle.std.proofs.lemmas.Simd.{bit_mask_l, ones-mask_l}
 use Rattle.masks.specs.Masks.{has, members, some_below, mask_of}
-use Rattle.masks.proofs.Members.{members_in, members_out, members_same, members_longer, none_below, no_some, none_passes}
+use Rattle.masks.proofs.Members.{members_same, members_longer, none_below, no_some, none_passes}
 
 -- `(m >> k) & 1 == 1`
 pub shifted : (m k : ℕ) → eqb (bit_and (m / 2 ^ k) 1) 1 ≡ has m k
 unfolding has
-shifted m k = ap (λ x. eqb x 1) (and_mask (m / 2 ^ k) 1)
-
-pub or_false : (b : Bool) → (b || false) ≡ b
-or_false true = refl
-or_false false = refl
+shifted m k = ap (λ x. eqb x 1) (shr_and_one m k)
 
 -- a bit is 0 or 1
-two_ways : (x : ℕ) → x < 2 → (x ≡ 0) ⊎ (x ≡ 1)
-two_ways x h = two_ways_by x h (cases_eq x 0)
-  where
-    two_ways_by : (x : ℕ) → x < 2 → (x ≡ 0) ⊎ (x ≡ 0 → ⊥) → (x ≡ 0) ⊎ (x ≡ 1)
-    two_ways_by x h (inl e) = inl e
-    two_ways_by x h (inr e) = inr (omega (arith, e))
+both : (x y : ℕ) → x < 2 → y < 2 → eqb (min x y) 1 ≡ (eqb x 1 && eqb y 1)
+both x y p q = grind (arith, nat_tests)
 
-bit : (x : ℕ) → (x % 2 ≡ 0) ⊎ (x % 2 ≡ 1)
-bit x = two_ways (x % 2) (mod_below x 2 (omega arith))
-
-and_bits : (a b : ℕ) → (a ≡ 0) ⊎ (a ≡ 1) → (b ≡ 0) ⊎ (b ≡ 1) → eqb (bit_and a b) 1 ≡ (eqb a 1 && eqb b 1)
-and_bits a b (inl p) (inl q) = ap₂ (λ x y. eqb (bit_and x y) 1) p q ∙ sym (ap₂ (λ x y. eqb x 1 && eqb y 1) p q)
-and_bits a b (inl p) (inr q) = ap₂ (λ x y. eqb (bit_and x y) 1) p q ∙ sym (ap₂ (λ x y. eqb x 1 && eqb y 1) p q)
-and_bits a b (inr p) (inl q) = ap₂ (λ x y. eqb (bit_and x y) 1) p q ∙ sym (ap₂ (λ x y. eqb x 1 && eqb y 1) p q)
-and_bits a b (inr p) (inr q) = ap₂ (λ x y. eqb (bit_and x y) 1) p q ∙ sym (ap₂ (λ x y. eqb x 1 && eqb y 1) p q)
-
-or_bits : (a b : ℕ) → (a ≡ 0) ⊎ (a ≡ 1) → (b ≡ 0) ⊎ (b ≡ 1) → eqb (bit_or a b) 1 ≡ (eqb a 1 || eqb b 1)
-or_bits a b (inl p) (inl q) = ap₂ (λ x y. eqb (bit_or x y) 1) p q ∙ sym (ap₂ (λ x y. eqb x 1 || eqb y 1) p q)
-or_bits a b (inl p) (inr q) = ap₂ (λ x y. eqb (bit_or x y) 1) p q ∙ sym (ap₂ (λ x y. eqb x 1 || eqb y 1) p q)
-or_bits a b (inr p) (inl q) = ap₂ (λ x y. eqb (bit_or x y) 1) p q ∙ sym (ap₂ (λ x y. eqb x 1 || eqb y 1) p q)
-or_bits a b (inr p) (inr q) = ap₂ (λ x y. eqb (bit_or x y) 1) p q ∙ sym (ap₂ (λ x y. eqb x 1 || eqb y 1) p q)
+either : (x y : ℕ) → x < 2 → y < 2 → eqb (max x y) 1 ≡ (eqb x 1 || eqb y 1)
+either x y p q = grind (arith, nat_tests)
 
 pub has_and : (a b k : ℕ) → has (bit_and a b) k ≡ (has a k && has b k)
 unfolding has
-has_and a b k =
-    ap (λ x. eqb (x % 2) 1) (and_shr a b k) ∙ ap (λ x. eqb x 1) (and_mod (a / 2 ^ k) (b / 2 ^ k) 1) ∙ and_bits ((a / 2 ^ k) % 2) ((b / 2 ^ k) % 2) (bit (a / 2 ^ k)) (bit (b / 2 ^ k))
+has_and a b k = ap (λ x. eqb x 1) (bit_at_and a b k) ∙ both (bit_at a k) (bit_at b k) (bit_at-lt a k) (bit_at-lt b k)
 
 pub has_or : (a b k : ℕ) → has (bit_or a b) k ≡ (has a k || has b k)
 unfolding has
-has_or a b k =
-    ap (λ x. eqb (x % 2) 1) (or_shr a b k) ∙ ap (λ x. eqb x 1) (or_mod (a / 2 ^ k) (b / 2 ^ k) 1) ∙ or_bits ((a / 2 ^ k) % 2) ((b / 2 ^ k) % 2) (bit (a / 2 ^ k)) (bit (b / 2 ^ k))
+has_or a b k = ap (λ x. eqb x 1) (bit_at_or a b k) ∙ either (bit_at a k) (bit_at b k) (bit_at-lt a k) (bit_at-lt b k)
 
 -- nothing is in a mask from its length on
 pub has_past : (m n k : ℕ) → m < 2 ^ n → n ≤ k → has m k ≡ false
 unfolding has
-has_past m n k h l =
-    let low : m < 2 ^ (0 + k) = past_by (cases_eq n k) in
-    let z : m / 2 ^ k < 1 = shr_below m 0 k low in
-    let e : m / 2 ^ k ≡ 0 = omega arith in
-    ap (λ x. eqb (x % 2) 1) e
-  where
-    past_by : (n ≡ k) ⊎ (n ≡ k → ⊥) → m < 2 ^ (0 + k)
-    past_by (inl e) = subst (λ (x : ℕ). m < 2 ^ x) (omega arith) h
-    past_by (inr e) = let p = pow_below n k (omega (arith, e)) in let q : m < 2 ^ k = omega arith in subst (λ (x : ℕ). m < 2 ^ x) (omega arith) q
+has_past m n k h l = ap (λ x. eqb x 1) (bit_at_above m n k h l)
 
 pub has_zero : (k : ℕ) → has 0 k ≡ false
-has_zero k = has_past 0 0 k (omega arith) (omega arith)
+unfolding has
+has_zero k = ap (λ x. eqb x 1) (bit_at-zero k)
 
 -- 2 ^ k has the bit k, and no other
-pow_low : (j d : ℕ) → (2 ^ ((d + 1) + j) / 2 ^ j) % 2 ≡ 0
-pow_low j d =
-    let a : 2 ^ ((d + 1) + j) / 2 ^ j ≡ 2 ^ (d + 1) = ap (λ n. n / 2 ^ j) (pow-add 2 (d + 1) j) ∙ shl-shr (2 ^ (d + 1)) j in
-    let b : 2 ^ (d + 1) ≡ 2 ^ d * 2 + 0 = pow-add 2 d 1 ∙ omega arith in
-    ap (λ n. n % 2) (a ∙ b) ∙ mod-mul-add (2 ^ d) 2 0 (omega arith)
-
-pub has_pow : (k : ℕ) → has (2 ^ k) k ≡ true
-unfolding has
-has_pow k =
-    let a : 2 ^ k / 2 ^ k ≡ 1 = ap (λ n. n / 2 ^ k) (omega arith) ∙ shl-shr 1 k in
-    ap (λ x. eqb (x % 2) 1) a
-
-has_pow_low : (k j : ℕ) → j < k → has (2 ^ k) j ≡ false
-unfolding has
-has_pow_low k j h =
-    let f : k ≡ ((k - j - 1) + 1) + j = omega arith in
-    ap (λ n. eqb ((2 ^ n / 2 ^ j) % 2) 1) f ∙ ap (λ x. eqb x 1) (pow_low j (k - j - 1))
-
-has_pow_high : (k j : ℕ) → k < j → has (2 ^ k) j ≡ false
-has_pow_high k j h = has_past (2 ^ k) j j (pow_below k j h) (omega arith)
-
 pub has_power : (k j : ℕ) → has (2 ^ k) j ≡ eqb j k
+unfolding has
 has_power k j = by (cases_eq j k)
   where
-    apart : (j ≡ k → ⊥) → (j < k) ⊎ (k ≤ j) → has (2 ^ k) j ≡ false
-    apart ne (inl h) = has_pow_low k j h
-    apart ne (inr h) = has_pow_high k j (omega (arith, ne))
+    by : (j ≡ k) ⊎ (j ≡ k → ⊥) → eqb (bit_at (2 ^ k) j) 1 ≡ eqb j k
+    by (inl e) = ap (λ i. eqb (bit_at (2 ^ k) i) 1) e ∙ ap (λ x. eqb x 1) (bit_at-pow_same k) ∙ sym (eq-eqb j k e)
+    by (inr e) = ap (λ x. eqb x 1) (bit_at-pow_other k j e) ∙ sym (ne_eqb j k e)
 
-    by : (j ≡ k) ⊎ (j ≡ k → ⊥) → has (2 ^ k) j ≡ eqb j k
-    by (inl e) = ap (has (2 ^ k)) e ∙ has_pow k ∙ sym (eq-eqb j k e)
-    by (inr e) = apart e (cases_lt j k) ∙ sym (ne_eqb j k e)
-
-low_bit : (x : ℕ) → eqb (x % 2) 1 ≡ false → x % 2 ≡ 0
-low_bit x e = let h = mod_below x 2 (omega arith) in grind (arith, nat_tests)
-
-bit_in : (m i : ℕ) → has m i ≡ true → (m / 2 ^ i) % 2 ≡ 1
+bit_out : (m i : ℕ) → has m i ≡ false → bit_at m i ≡ 0
 unfolding has
-bit_in m i e = eqb-true ((m / 2 ^ i) % 2) 1 e
-
-bit_out : (m i : ℕ) → has m i ≡ false → (m / 2 ^ i) % 2 ≡ 0
-unfolding has
-bit_out m i e = low_bit (m / 2 ^ i) e
+bit_out m i e = let h = bit_at-lt m i in let n = eqb-false (bit_at m i) 1 e in omega (arith, n)
 
 -- a mask with no member is 0
-empty_from : (n m i : ℕ) → m < 2 ^ (n + i) → ((k : ℕ) → i ≤ k → k < i + n → has m k ≡ false) → m / 2 ^ i ≡ 0
-empty_from zero m i h none = let z : m / 2 ^ i < 1 = shr_below m 0 i h in omega arith
-empty_from (suc n) m i h none =
-    let below : m < 2 ^ (n + suc i) = subst (λ (x : ℕ). m < 2 ^ x) (omega arith) h in
-    let rest = empty_from n m (suc i) below (λ k a b. none k (omega arith) (omega arith)) in
-    let deeper : m / 2 ^ i / 2 ≡ m / 2 ^ (i + 1) = shr-shr m i 1 in
-    let up : m / 2 ^ (i + 1) ≡ m / 2 ^ suc i = ap (λ x. m / 2 ^ x) (omega arith) in
-    let here = bit_out m i (none i (omega arith) (omega arith)) in
-    omega arith
-
 pub empty_mask : (n m : ℕ) → m < 2 ^ n → ((k : ℕ) → k < n → has m k ≡ false) → m ≡ 0
-empty_mask n m h none =
-    let a = empty_from n m 0 (subst (λ (x : ℕ). m < 2 ^ x) (omega arith) h) (λ k a b. none k (omega arith)) in
-    let d : m / 2 ^ 0 ≡ m = omega arith in
-    sym d ∙ a
+empty_mask n m h none = same_from_bits_below n m 0 h (pow_pos n) (λ i l. bit_out m i (none i l) ∙ sym (bit_at-zero i))
 
 -- two masks meet where their `&` is not 0
 pub meets : (n a b : ℕ) → a < 2 ^ n → eqb (bit_and a b) 0 ≡ not (some_below (λ k. has a k && has b k) n)
@@ -147,17 +83,7 @@ meets n a b h = meets_by (cases_Bool (some_below (λ k. has a k && has b k) n))
 
 -- one more number in a mask: its power is added
 meets_power : (m k : ℕ) → has m k ≡ false → bit_and m (2 ^ k) ≡ 0
-meets_power m k h = bit_and_comm ∙ empty_mask (suc k) (bit_and (2 ^ k) m) small (λ j l. has_and (2 ^ k) m j ∙ by j (cases_eq j k))
-  where
-    bit_and_comm : bit_and m (2 ^ k) ≡ bit_and (2 ^ k) m
-    bit_and_comm = and_comm m (2 ^ k)
-
-    small : bit_and (2 ^ k) m < 2 ^ suc k
-    small = let l = and_le_l (2 ^ k) m in let p = pow_below k (suc k) (omega arith) in omega arith
-
-    by : (j : ℕ) → (j ≡ k) ⊎ (j ≡ k → ⊥) → (has (2 ^ k) j && has m j) ≡ false
-    by j (inl e) = and_right (has (2 ^ k) j) (has m j) (ap (has m) e ∙ h)
-    by j (inr e) = and_left (has (2 ^ k) j) (has m j) (has_power k j ∙ ne_eqb j k e)
+meets_power m k h = and_pow m k ∙ ap (λ x. x * 2 ^ k) (bit_out m k h) ∙ omega arith
 
 pub or_power : (m k : ℕ) → has m k ≡ false → bit_or m (2 ^ k) ≡ m + 2 ^ k
 or_power m k h = or_disjoint m (2 ^ k) (meets_power m k h)
@@ -191,34 +117,30 @@ has_mask p (suc n) k = by (p n) refl (has_mask p n k) (cases_eq k n)
     by true e rest (inl q) =
         has_added (mask_of p n) n k free ∙ or_right (has (mask_of p n) k) (eqb k n) (eq-eqb k n q) ∙ sym (and_from (ltb k (suc n)) (p k) (lt-ltb k (suc n) (omega arith)) (ap p q ∙ e))
     by true e rest (inr q) =
-        has_added (mask_of p n) n k free ∙ ap₂ ◌||◌ rest (ne_eqb k n q) ∙ or_false (ltb k n && p k) ∙ ap (λ b. b && p k) (lower q)
+        has_added (mask_of p n) n k free ∙ ap₂ ◌||◌ rest (ne_eqb k n q) ∙ or-false (ltb k n && p k) ∙ ap (λ b. b && p k) (lower q)
     by false e rest (inl q) =
         ap (λ m. has m k) (add-zero (mask_of p n)) ∙ rest ∙ and_left (ltb k n) (p k) (le-ltb k n (omega arith)) ∙ sym (and_right (ltb k (suc n)) (p k) (ap p q ∙ e))
     by false e rest (inr q) = ap (λ m. has m k) (add-zero (mask_of p n)) ∙ rest ∙ ap (λ b. b && p k) (lower q)
 
 -- the ones of a mask are its members
-members_ones : (n m i : ℕ) → m < 2 ^ (n + i) → length (members (has m) i n) ≡ ones (m / 2 ^ i)
-unfolding members
-members_ones zero m i h =
-    let z : m / 2 ^ i < 1 = shr_below m 0 i h in
-    let l = ones-le 0 (m / 2 ^ i) z in
-    omega arith
-members_ones (suc n) m i h =
-    let below : m < 2 ^ (n + suc i) = subst (λ (x : ℕ). m < 2 ^ x) (omega arith) h in
-    let rest = members_ones n m (suc i) below in
-    let step = ones_step (m / 2 ^ i) in
-    let deeper : m / 2 ^ i / 2 ≡ m / 2 ^ suc i = shr-shr m i 1 ∙ ap (λ x. m / 2 ^ x) (omega arith) in
-    let same : ones (m / 2 ^ i / 2) ≡ ones (m / 2 ^ suc i) = ap ones deeper in
-    by rest (omega arith) (cases_Bool (has m i))
+bit_is : (m i : ℕ) → cond (has m i) 1 0 ≡ bit_at m i
+unfolding has
+bit_is m i = let h = bit_at-lt m i in grind (arith, nat_tests)
+
+by_lanes : (n m : ℕ) → m < 2 ^ n → mask_l (map (has m) (range_with_len 0 n)) ≡ m
+by_lanes n m h = same_from_bits (mask_l lanes) m (λ i. bit_mask_l lanes i ∙ by i (cases_lt i n))
   where
-    by : length (members (has m) (suc i) n) ≡ ones (m / 2 ^ suc i) → ones (m / 2 ^ i) ≡ (m / 2 ^ i) % 2 + ones (m / 2 ^ suc i) → (has m i ≡ true) ⊎ (has m i ≡ false) → length (members (has m) i (suc n)) ≡ ones (m / 2 ^ i)
-    by rest step (inl e) = let b = bit_in m i e in ap length (members_in (has m) i n e) ∙ omega arith
-    by rest step (inr e) = let b = bit_out m i e in ap length (members_out (has m) i n e) ∙ omega arith
+    lanes : List Bool
+    lanes = map (has m) (range_with_len 0 n)
+
+    by : (i : ℕ) → (i < n) ⊎ (n ≤ i) → cond (get_or lanes i false) 1 0 ≡ bit_at m i
+    by i (inl l) = ap (λ b. cond b 1 0) (get_or-map-range_with_len (has m) 0 n i i false l (zero-add i)) ∙ bit_is m i
+    by i (inr l) = ap (λ b. cond b 1 0) (get_or_past lanes i false (omega (arith, length-map-range_with_len (has m) 0 n))) ∙ sym (bit_at_above m n i h l)
 
 pub ones_members : (n m : ℕ) → m < 2 ^ n → ones m ≡ length (members (has m) 0 n)
+unfolding members
 ones_members n m h =
-    let d : m / 2 ^ 0 ≡ m = omega arith in
-    sym (members_ones n m 0 (subst (λ (x : ℕ). m < 2 ^ x) (omega arith) h) ∙ ap ones d)
+    ap ones (sym (by_lanes n m h)) ∙ ones-mask_l (has m) (range_with_len 0 n) ∙ sym (length-filter (has m) (range_with_len 0 n))
 
 -- the members of the mask of a test, over any longer range
 pub members_mask : (p : ℕ → Bool) (n d : ℕ) → members (has (mask_of p n)) 0 (n + d) ≡ members p 0 n
@@ -239,13 +161,24 @@ some_mask p n ne = by (cases_eq (length (members p 0 n)) 0)
     by (inl e) = absurd (ne (empty_mask n (mask_of p n) (mask_below p n) (λ k h. has_mask p n k ∙ and_right (ltb k n) (p k) (none_passes p 0 n e k (omega arith) (omega arith)))))
     by (inr e) = omega (arith, e)
 
--- a step of the loop that builds the mask of a test, by `mask |= 1 << k`
-pub mask_in : (p : ℕ → Bool) (k : ℕ) → k < 16 → p k ≡ true → bit_or (mask_of p k) ((1 * 2 ^ k) % 65536) ≡ mask_of p (k + 1)
-mask_in p k h e =
-    let a : suc k ≡ k + 1 = omega arith in
-    ap (bit_or (mask_of p k)) (one_shl k 16 h) ∙ or_power (mask_of p k) k (has_past (mask_of p k) k k (mask_below p k) (omega arith)) ∙ ap (λ b. mask_of p k + cond b (2 ^ k) 0) (sym e) ∙ ap (mask_of p) a
+-- the mask of a test, built by `mask | 1 << k` at each number that passes
+members_last : (p : ℕ → Bool) (n : ℕ) → members p 0 (n + 1) ≡ members p 0 n ++ cond (p n) (n ∷ []) []
+unfolding members
+members_last p n =
+    ap (filter p) (sym (map-id (range_with_len 0 (n + 1)))) ∙ filter_of_map_range_with_len_more p (λ x. x) 0 n n (zero-add n) ∙ ap (λ l. filter p l ++ cond (p n) (n ∷ []) []) (map-id (range_with_len 0 n))
 
-pub mask_out : (p : ℕ → Bool) (k : ℕ) → p k ≡ false → mask_of p k ≡ mask_of p (k + 1)
-mask_out p k e =
-    let a : suc k ≡ k + 1 = omega arith in
-    sym (add-zero (mask_of p k)) ∙ ap (λ b. mask_of p k + cond b (2 ^ k) 0) (sym e) ∙ ap (mask_of p) a
+abbrev joining : ℕ → ℕ → ℕ
+joining m k = bit_or m ((1 * 2 ^ k) % 65536)
+
+joined : (p : ℕ → Bool) (n : ℕ) → n < 16 → (p n ≡ true) ⊎ (p n ≡ false) → fold joining (mask_of p n) (cond (p n) (n ∷ []) []) ≡ mask_of p (suc n)
+joined p n h (inl e) =
+    ap (λ b. fold joining (mask_of p n) (cond b (n ∷ []) [])) e ∙ ap (bit_or (mask_of p n)) (one_shl n 16 h) ∙ or_power (mask_of p n) n (has_past (mask_of p n) n n (mask_below p n) (omega arith)) ∙ ap (λ b. mask_of p n + cond b (2 ^ n) 0) (sym e)
+joined p n h (inr e) =
+    ap (λ b. fold joining (mask_of p n) (cond b (n ∷ []) [])) e ∙ sym (add-zero (mask_of p n)) ∙ ap (λ b. mask_of p n + cond b (2 ^ n) 0) (sym e)
+
+pub mask_fold : (p : ℕ → Bool) (n : ℕ) → n ≤ 16 → fold (λ m k. bit_or m ((1 * 2 ^ k) % 65536)) 0 (members p 0 n) ≡ mask_of p n
+unfolding members
+mask_fold p zero h = refl
+mask_fold p (suc n) h =
+    let a : suc n ≡ n + 1 = omega arith in
+    ap (λ i. fold joining 0 (members p 0 i)) a ∙ ap (fold joining 0) (members_last p n) ∙ fold-append joining 0 (members p 0 n) (cond (p n) (n ∷ []) []) ∙ ap (λ m. fold joining m (cond (p n) (n ∷ []) [])) (mask_fold p n (omega arith)) ∙ joined p n (omega arith) (cases_Bool (p n))

@@ -18,14 +18,5 @@ pub fn has(mask: u16, k: u8) -> bool
 pub fn member(mask: u16, k: u8) -> Option<u8>
     ensures { result ≡ place_in (members (has_bit mask) 0 16) k }
 {
-    let mut left = k;
-    for n in 0..16u8 {
-        if has(mask, n) {
-            if left == 0 {
-                return Some(n);
-            }
-            left -= 1;
-        }
-    }
-    None
+    (0..16).filter(|n| has(mask, *n)).nth(usize::from(k))
 }

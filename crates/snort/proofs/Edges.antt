@@ -5,7 +5,8 @@ use Rattle.std.proofs.lemmas.Nat.{one_shl, pow_below, pow_pos}
 use Rattle.std.proofs.lemmas.List.{get_or-set_same, get_or-set_other, length-set}
 use Rattle.std.proofs.lemmas.Bool.{cases_eq, eq-eqb, ne_eqb, and_from, and_left, and_right, or_from, lt-ltb, not_from_false}
 use Rattle.masks.specs.Masks.{has}
-use Rattle.masks.proofs.Bits.{has_zero, has_or, has_power, meets, or_false}
+use Rattle.masks.proofs.Bits.{has_zero, has_or, has_power, meets}
+use Rattle.std.proofs.Math.Bool.{or-false, not-not, and_comm, or_comm}
 use Rattle.snort.specs.Maps.{joined, edge, edge_fits}
 use Rattle.snort.specs.Play.{beside}
 
@@ -22,29 +23,10 @@ fresh_within n points k = subst (λ (m : ℕ). m < 2 ^ points) (sym (no_neighbou
 
 -- `self.near[k] & mask != 0`
 pub beside_meets : (points : ℕ) (near : List ℕ) (mask k : ℕ) → get_or near k 0 < 2 ^ points → not (eqb (bit_and (get_or near k 0) mask) 0) ≡ beside points (joined near) mask k
-beside_meets points near mask k h = ap not (meets points (get_or near k 0) mask h) ∙ not_not (beside points (joined near) mask k)
-  where
-    not_not : (b : Bool) → not (not b) ≡ b
-    not_not true = refl
-    not_not false = refl
+beside_meets points near mask k h = ap not (meets points (get_or near k 0) mask h) ∙ not-not (beside points (joined near) mask k)
 
 edge_swap : (p q r s : Bool) → ((p && q) || (r && s)) ≡ ((s && r) || (q && p))
-edge_swap true true true true = refl
-edge_swap true true true false = refl
-edge_swap true true false true = refl
-edge_swap true true false false = refl
-edge_swap true false true true = refl
-edge_swap true false true false = refl
-edge_swap true false false true = refl
-edge_swap true false false false = refl
-edge_swap false true true true = refl
-edge_swap false true true false = refl
-edge_swap false true false true = refl
-edge_swap false true false false = refl
-edge_swap false false true true = refl
-edge_swap false false true false = refl
-edge_swap false false false true = refl
-edge_swap false false false false = refl
+edge_swap p q r s = or_comm (p && q) (r && s) ∙ ap₂ ◌||◌ (and_comm r s) (and_comm p q)
 
 pub fits_from : (points a b : ℕ) → a < points → b < points → (a ≡ b → ⊥) → edge_fits points a b ≡ true
 fits_from points a b h l ne =
@@ -81,7 +63,7 @@ module _ (points : ℕ) (near : List ℕ) (a b : ℕ) (few : points ≤ 12) (lon
 
   edge_a : (y : ℕ) → edge a b a y ≡ eqb y b
   edge_a y =
-      ap₂ (λ p q. (p && eqb y b) || (q && eqb y a)) (eq-eqb a a refl) (ne_eqb a b ne) ∙ or_false (eqb y b)
+      ap₂ (λ p q. (p && eqb y b) || (q && eqb y a)) (eq-eqb a a refl) (ne_eqb a b ne) ∙ or-false (eqb y b)
 
   edge_b : (y : ℕ) → edge a b b y ≡ eqb y a
   edge_b y = ap₂ (λ p q. (p && eqb y b) || (q && eqb y a)) (ne_eqb b a (λ e. ne (sym e))) (eq-eqb b b refl)
@@ -95,7 +77,7 @@ module _ (points : ℕ) (near : List ℕ) (a b : ℕ) (few : points ≤ 12) (lon
   joined_by x y (inr p) (inl e) =
       ap (λ z. joined second z y) e ∙ ap (λ m. has m y) mask_b ∙ added (get_or near b 0) a y ∙ ap (λ z. joined near b y || z) (sym (edge_b y)) ∙ ap (λ z. joined near z y || edge a b z y) (sym e)
   joined_by x y (inr p) (inr q) =
-      ap (λ m. has m y) (mask_other x p q) ∙ sym (ap (λ z. joined near x y || z) (edge_other x y p q) ∙ or_false (joined near x y))
+      ap (λ m. has m y) (mask_other x p q) ∙ sym (ap (λ z. joined near x y || z) (edge_other x y p q) ∙ or-false (joined near x y))
 
   -- the edge is added, and nothing else changes
   pub joined_more : (x y : ℕ) → joined second x y ≡ (joined near x y || edge a b x y)

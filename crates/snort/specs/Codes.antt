@@ -1,11 +1,11 @@
 -- The trees of codes: what the rules say of them, that nothing else agrees with the rules, and the answers to the four questions.
-use Rattle.std.specs.Prelude.{◌≡◌, ℕ, zero, suc, ◌+◌, ◌-◌, ◌/◌, ◌%◌, ◌^◌, ◌<◌, ◌≤◌, Bool, true, false, cond, ◌&&◌, ◌||◌, ◌⊎◌, List, [], ◌∷◌, map, length, pos, ◌-ℤ◌, is_some, Some, None, Option, ◌==◌, ◌≢◌, bit_or, count_ones, refl}
+use Rattle.std.specs.Prelude.{◌≡◌, ℕ, zero, suc, ◌+◌, ◌-◌, ◌/◌, ◌%◌, ◌^◌, ◌<◌, ◌≤◌, Bool, true, false, cond, not, ◌&&◌, ◌||◌, ◌⊎◌, List, [], ◌∷◌, map, length, pos, ◌-ℤ◌, is_some, Some, None, Option, ◌==◌, ◌≢◌, bit_or, count_ones, refl}
 use Rattle.std.proofs.Math.Path.{ap, ap₂}
 use Rattle.std.proofs.Common.{sym, ◌∙◌, subst, subst₂, inl, inr, arith, pow_mono}
 use Rattle.std.specs.List.{AllByRecursion}
 use Rattle.std.proofs.lemmas.Nat.{pow_below, or_lt}
 use Rattle.std.proofs.lemmas.List.{length-map}
-use Rattle.std.proofs.lemmas.Bool.{cases_Bool, cases_eq, lt-ltb, eq-eqb, ne_eqb, or_left, or_right}
+use Rattle.std.proofs.lemmas.Bool.{cases_Bool, cases_eq, lt-ltb, eq-eqb, ne_eqb, eqb-true, eqb-false, not-true, not-false, or_left, or_right, or_parts, or_cases}
 use Rattle.terms.specs.declared.side.Side.{Side}
 use Rattle.terms.specs.declared.side.Side.TheVariants.{Left, Right}
 use Rattle.terms.specs.Sides.{pick}
@@ -370,37 +370,39 @@ module _ (points : ℕ) (joined : ℕ → ℕ → Bool) (few : points ≤ 12) (s
   pub answer_unknown_score : (code : ℕ) → None ≡ play.colours_of points joined code → None ≡ score_in (tree code)
   answer_unknown_score code e = rw (tree_unknown code (unseen code e)) refl
 
-  -- what the code makes of the position that it has read
-  module _ (code : ℕ) (c : Colours) (e : Some c ≡ play.colours_of points joined code) (l r : ℕ) (is-l : l ≡ mask_of (legal c.left c.right) points) (is-r : r ≡ mask_of (legal c.right c.left) points) where
+  -- what the code makes of the position that it has read, and of the points that each side may colour there
+  module _ (code : ℕ) (c : Colours) (e : Some c ≡ play.colours_of points joined code) (may : Colours) (is : may ≡ play.legal_masks points joined c) where
     here : Stands code × (c.left ≡ left code) × (c.right ≡ right code)
     here = seen code c e
 
-    same_l : l ≡ legal_mask Left code
-    same_l = is-l ∙ ap₂ (λ x y. mask_of (legal x y) points) here.1 here.2
+    same_l : may.left ≡ legal_mask Left code
+    same_l = ap (λ (x : Colours). x.left) is ∙ ap₂ (λ x y. mask_of (legal x y) points) here.1 here.2
 
-    same_r : r ≡ legal_mask Right code
-    same_r = is-r ∙ ap₂ (λ x y. mask_of (legal x y) points) here.2 here.1
+    same_r : may.right ≡ legal_mask Right code
+    same_r = ap (λ (x : Colours). x.right) is ∙ ap₂ (λ x y. mask_of (legal x y) points) here.2 here.1
 
-    pub answer_open_score : (l ≢ 0) → (r ≢ 0) → None ≡ score_in (tree code)
-    answer_open_score nl nr =
-        rw (tree_known code here.0) (sym (code_no_score code here.0 (some_mask (legal (left code) (right code)) points (λ z. nl (same_l ∙ z)), some_mask (legal (right code) (left code)) points (λ z. nr (same_r ∙ z)))))
+    pub answer_open_score : not (may.left == 0 || may.right == 0) ≡ true → None ≡ score_in (tree code)
+    answer_open_score o =
+        let z = or_parts (may.left == 0) (may.right == 0) (not-true (may.left == 0 || may.right == 0) o) in
+        rw (tree_known code here.0) (sym (code_no_score code here.0 (some_mask (legal (left code) (right code)) points (λ n. eqb-false may.left 0 z.0 (same_l ∙ n)), some_mask (legal (right code) (left code)) points (λ n. eqb-false may.right 0 z.1 (same_r ∙ n)))))
 
-    ours_held : count_ones (bit_or c.left l) ≡ play.held points joined (left code) (right code)
+    ours_held : count_ones (bit_or c.left may.left) ≡ play.held points joined (left code) (right code)
     ours_held = ap₂ (λ x y. count_ones (bit_or x y)) here.1 same_l ∙ ones_held (left code) (right code) (standing points joined (left code) (right code) here.0).low
 
-    theirs_held : count_ones (bit_or c.right r) ≡ play.held points joined (right code) (left code)
+    theirs_held : count_ones (bit_or c.right may.right) ≡ play.held points joined (right code) (left code)
     theirs_held = ap₂ (λ x y. count_ones (bit_or x y)) here.2 same_r ∙ ones_held (right code) (left code) (standing points joined (left code) (right code) here.0).high
 
-    pub ours_few : count_ones (bit_or c.left l) ≤ 12
-    ours_few = let a = held_few (left code) (right code) in omega (arith, ours_held)
+    pub both_few : (count_ones (bit_or c.left may.left) ≤ 12) × (count_ones (bit_or c.right may.right) ≤ 12)
+    both_few =
+        let a = held_few (left code) (right code) in
+        let b = held_few (right code) (left code) in
+        (omega (arith, ours_held), omega (arith, theirs_held))
 
-    pub theirs_few : count_ones (bit_or c.right r) ≤ 12
-    theirs_few = let a = held_few (right code) (left code) in omega (arith, theirs_held)
+    over_by : (may.left == 0 ≡ true) ⊎ (may.right == 0 ≡ true) → Over code
+    over_by (inl z) = inl (zero_mask (legal (left code) (right code)) points (sym same_l ∙ eqb-true may.left 0 z))
+    over_by (inr z) = inr (zero_mask (legal (right code) (left code)) points (sym same_r ∙ eqb-true may.right 0 z))
 
-    over_by : ((l ≢ 0) × (r ≡ 0)) ⊎ (l ≡ 0) → Over code
-    over_by (inl z) = inr (zero_mask (legal (right code) (left code)) points (sym same_r ∙ z.1))
-    over_by (inr z) = inl (zero_mask (legal (left code) (right code)) points (sym same_l ∙ z))
-
-    pub answer_score : ((l ≢ 0) × (r ≡ 0)) ⊎ (l ≡ 0) → Some (pos (count_ones (bit_or c.left l)) -ℤ pos (count_ones (bit_or c.right r))) ≡ score_in (tree code)
-    answer_score z =
+    pub answer_score : not (may.left == 0 || may.right == 0) ≡ false → Some (pos (count_ones (bit_or c.left may.left)) -ℤ pos (count_ones (bit_or c.right may.right))) ≡ score_in (tree code)
+    answer_score o =
+        let z = or_cases (may.left == 0) (may.right == 0) (not-false (may.left == 0 || may.right == 0) o) in
         rw (tree_known code here.0, code_ended code here.0 (over_by z)) (ap₂ (λ x y. Some (pos x -ℤ pos y)) ours_held theirs_held)

@@ -26,6 +26,10 @@ module _ (points : ℕ) (joined : ℕ → ℕ → Bool) where
   abbrev pub legal : ℕ → ℕ → ℕ → Bool
   legal own far k = not (has own k) && (not (has far k) && not (beside far k))
 
+  -- whether the side may colour the point, the points of both given
+  abbrev pub may_colour : Colours → Side → ℕ → Bool
+  may_colour c s = legal (pick s c.left c.right) (pick s c.right c.left)
+
   -- the points that it may colour, in their order
   abbrev pub moves : ℕ → ℕ → List ℕ
   moves own far = members (legal own far) 0 points
@@ -63,13 +67,16 @@ module _ (points : ℕ) (joined : ℕ → ℕ → Bool) where
   snort_tree code =
       cond (stands (code % code_base) (code / code_base)) (Some (tree_within points (code % code_base) (code / code_base))) None
 
-  -- the masks of both sides' options
+  -- the points that each side may colour, as masks
+  abbrev pub legal_masks : Colours → Colours
+  legal_masks c = record { left = mask_of (may_colour c Left) points; right = mask_of (may_colour c Right) points }
+
+  -- the mask of a side's options
   abbrev pub both_moves : Option Colours → Side → ℕ
   both_moves None s = 0
   both_moves (Some c) s =
-      let left = mask_of (legal c.left c.right) points in
-      let right = mask_of (legal c.right c.left) points in
-      cond (left == 0 || right == 0) 0 (pick s left right)
+      let both = legal_masks c in
+      cond (both.left == 0 || both.right == 0) 0 (pick s both.left both.right)
 
   abbrev pub moves_mask : ℕ → Side → ℕ
   moves_mask code s = both_moves (colours_of code) s

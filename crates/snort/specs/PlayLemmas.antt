@@ -11,12 +11,9 @@ use Rattle.rules.proofs.Options.{map_same, all_map}
 use Rattle.rules.proofs.Positions.{ended_left, lawful_position}
 use Rattle.masks.specs.Masks.{has, members}
 use Rattle.masks.proofs.Members.{Member, members_same, members_all, members_few, members_none, none_passes, less, none_below, no_some}
-use Rattle.masks.proofs.Bits.{has_added, added_below, or_false}
+use Rattle.masks.proofs.Bits.{has_added, added_below}
+use Rattle.std.proofs.Math.Bool.{or-false, and-true, and_comm}
 use Rattle.snort.specs.Play as play
-
-and_true : (b : Bool) → (b && true) ≡ b
-and_true true = refl
-and_true false = refl
 
 module _ (points : ℕ) (joined : ℕ → ℕ → Bool) where
   abbrev beside : ℕ → ℕ → Bool
@@ -52,12 +49,6 @@ module _ (points : ℕ) (joined : ℕ → ℕ → Bool) where
 
   free_same : (left right k : ℕ) → free left right k ≡ free right left k
   free_same left right k = and_comm (not (has left k)) (not (has right k))
-    where
-      and_comm : (a b : Bool) → (a && b) ≡ (b && a)
-      and_comm true true = refl
-      and_comm true false = refl
-      and_comm false true = refl
-      and_comm false false = refl
 
   pub uncoloured_same : (left right : ℕ) → uncoloured left right ≡ uncoloured right left
   uncoloured_same left right = ap length (members_same (free left right) (free right left) 0 points (λ k a b. free_same left right k))
@@ -167,7 +158,7 @@ module _ (points : ℕ) (joined : ℕ → ℕ → Bool) where
 
       by : (j ≡ k) ⊎ (j ≢ k) → (has right j ≡ false) × (beside right j ≡ false)
       by (inl q) = (ap (has right) q ∙ p.1, ap (beside right) q ∙ p.2)
-      by (inr q) = apart j h (sym (ap (λ b. has left j || b) (ne_eqb j k q) ∙ or_false (has left j)) ∙ sym (has_added left k j p.0) ∙ l)
+      by (inr q) = apart j h (sym (ap (λ b. has left j || b) (ne_eqb j k q) ∙ or-false (has left j)) ∙ sym (has_added left k j p.0) ∙ l)
 
   pub left_stands : (left right k : ℕ) → stands left right ≡ true → k < points → legal left right k ≡ true → stands (left + 2 ^ k) right ≡ true
   left_stands left right k s h e =
@@ -186,12 +177,12 @@ module _ (points : ℕ) (joined : ℕ → ℕ → Bool) where
         -- no edge from j to k: j is Left's
         unjoined : joined j k ≡ false
         unjoined =
-            symmetric j k ∙ sym (ap (λ x. joined k j && x) l ∙ and_true (joined k j)) ∙ none_below (λ i. joined k i && has left i) points p.2 j h
+            symmetric j k ∙ sym (ap (λ x. joined k j && x) l ∙ and-true (joined k j)) ∙ none_below (λ i. joined k i && has left i) points p.2 j h
 
         by : (i : ℕ) → i < points → (i ≡ k) ⊎ (i ≢ k) → (joined j i && has (right + 2 ^ k) i) ≡ false
         by i g (inl q) = and_left (joined j i) (has (right + 2 ^ k) i) (ap (joined j) q ∙ unjoined)
         by i g (inr q) =
-            ap (λ b. joined j i && b) (has_added right k i p.0 ∙ ap (λ b. has right i || b) (ne_eqb i k q) ∙ or_false (has right i)) ∙ none_below (λ i. joined j i && has right i) points none i g
+            ap (λ b. joined j i && b) (has_added right k i p.0 ∙ ap (λ b. has right i || b) (ne_eqb i k q) ∙ or-false (has right i)) ∙ none_below (λ i. joined j i && has right i) points none i g
 
     right_apart : (left right k : ℕ) → k < points → Apart left right → legal right left k ≡ true → Apart left (right + 2 ^ k)
     right_apart left right k b apart e j h l = (by (cases_eq j k), right_beside left right k j b h e l (apart j h l).1)

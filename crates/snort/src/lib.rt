@@ -17,18 +17,13 @@ mod tests {
 
     // The number of the refusal, 0 where there is none.
     fn number<T: Drop>(r: Result<T, Refusal>) -> u8 {
-        match r {
-            Ok(_) => 0,
-            Err(refusal) => refusal.number(),
-        }
+        r.err().map_or(0, Refusal::number)
     }
 
     // A path of three points.
     #[test]
     fn path_of_three(rt: HostRuntime) -> Result<(), Fail> {
-        let Ok(mut map) = Snort::new(3) else {
-            return Err(Fail::new("refused"));
-        };
+        let mut map = Snort::new(3).map_err(|_| Fail::new("refused"))?;
         assert_eq!(rt; number(map.join(0, 1)), 0);
         assert_eq!(rt; number(map.join(1, 2)), 0);
         assert_eq!(rt; number(map.join(2, 2)), 52);

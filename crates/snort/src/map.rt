@@ -1,7 +1,7 @@
 ghost use Rattle.std.specs.Prelude.{◌≡◌, ℕ, ◌^◌, ◌<◌, ◌≤◌, true, false, ◌&&◌, ◌||◌, if◌then◌else◌, Ok, Err, slice_index};
 ghost use Rattle.masks.specs.Masks.{mask_of};
 ghost use Rattle.snort.specs.Maps.{point_limit, joined, edge, edge_fits, size_fits};
-ghost use Rattle.snort.specs.Play.{beside, legal as legal_for, clash_at, clash as clash_of, colours_of, moves_mask, growth, snort_tree, ByTheRules};
+ghost use Rattle.snort.specs.Play.{beside, may_colour, clash as clash_of, colours_of, legal_masks, moves_mask, growth, snort_tree, ByTheRules};
 ghost use Rattle.snort.specs.Codes;
 
 use crate::colours::Colours;
@@ -20,6 +20,7 @@ const CODE_BASE: u32 = 4096;
 #[derive(Clone, Copy)]
 pub struct Snort {
     points: u8,
+    // a place for each point that a map may have: the library takes no memory of its own
     near: [u16; 12],
     ghost size: { (1 ≤ points) × (points ≤ point_limit) },
     ghost within: { (k : ℕ) → slice_index near k < 2 ^ points },
@@ -66,45 +67,40 @@ impl Snort {
         self.near[k as usize] & mask != 0
     }
 
-    // Whether a side may colour the point, its own points and those of the other given.
-    fn is_legal(&self, own: u16, far: u16, k: u8) -> bool
+    // Whether a side may colour the point.
+    fn is_legal(&self, colours: Colours, side: Side, k: u8) -> bool
         requires { k < self.now.points }
-        ensures { result ≡ legal_for self.now.points (joined self.now.near) own far k }
+        ensures { result ≡ may_colour self.now.points (joined self.now.near) colours side k }
     {
-        !has(own, k) && !has(far, k) && !self.is_beside(far, k)
+        let far = colours.own(side.other());
+        !has(colours.own(side), k) && !has(far, k) && !self.is_beside(far, k)
     }
 
     // The points that a side may colour.
-    fn legal(&self, own: u16, far: u16) -> u16
-        ensures { result ≡ mask_of (legal_for self.now.points (joined self.now.near) own far) self.now.points }
+    fn legal(&self, colours: Colours, side: Side) -> u16
+        ensures { result ≡ mask_of (may_colour self.now.points (joined self.now.near) colours side) self.now.points }
     {
-        let mut mask = 0u16;
-        for k in 0..self.points {
-            if self.is_legal(own, far, k) {
-                mask |= 1 << k;
-            }
-        }
-        mask
+        (0..self.points)
+            .filter(|k| self.is_legal(colours, side, *k))
+            .fold(0, |mask, k| mask | 1 << k)
     }
 
-    // Whether the point is Left's, and Right's too or beside one of Right's.
-    fn clashes_at(&self, left: u16, right: u16, k: u8) -> bool
-        requires { k < self.now.points }
-        ensures { result ≡ clash_at self.now.points (joined self.now.near) left right k }
+    // The points that each side may colour.
+    fn choices(&self, colours: Colours) -> Colours
+        ensures { result ≡ legal_masks self.now.points (joined self.now.near) colours }
     {
-        has(left, k) && (has(right, k) || self.is_beside(right, k))
+        Colours {
+            left: self.legal(colours, Side::Left),
+            right: self.legal(colours, Side::Right),
+        }
     }
 
-    // Whether a point has both colours, or an edge joins the two.
-    fn clash(&self, left: u16, right: u16) -> bool
-        ensures { result ≡ clash_of self.now.points (joined self.now.near) left right }
+    // Whether a point of Left's is Right's too, or beside one of Right's.
+    fn clash(&self, colours: Colours) -> bool
+        ensures { result ≡ clash_of self.now.points (joined self.now.near) colours.left colours.right }
     {
-        for k in 0..self.points {
-            if self.clashes_at(left, right, k) {
-                return true;
-            }
-        }
-        false
+        let Colours { left, right } = colours;
+        (0..self.points).any(|k| has(left, k) && (has(right, k) || self.is_beside(right, k)))
     }
 
     // The position of a code; none where it may not stand on the map.
@@ -121,28 +117,17 @@ impl Snort {
             left: left as u16,
             right: right as u16,
         };
-        if self.clash(colours.left, colours.right) {
-            return None;
-        }
-        Some(colours)
+        (!self.clash(colours)).then_some(colours)
     }
 
     // The points that a side may colour in an open position; none where it is ended, or the code is unknown.
     fn moves(&self, code: u32, side: Side) -> u16
         ensures { result ≡ moves_mask self.now.points (joined self.now.near) code side }
     {
-        let Some(c) = self.colours(code) else {
-            return 0;
-        };
-        let left = self.legal(c.left, c.right);
-        let right = self.legal(c.right, c.left);
-        if left == 0 || right == 0 {
-            return 0;
-        }
-        match side {
-            Side::Left => left,
-            Side::Right => right,
-        }
+        self.colours(code)
+            .map(|colours| self.choices(colours))
+            .filter(|choices| choices.both_have_some())
+            .map_or(0, |choices| choices.own(side))
     }
 }
 
@@ -151,10 +136,7 @@ fn coloured(side: Side, point: u8) -> u32
     requires { point < 16 }
     ensures { result ≡ growth side point }
 {
-    match side {
-        Side::Left => 1 << point,
-        Side::Right => CODE_BASE << point,
-    }
+    side.pick(1, CODE_BASE) << point
 }
 
 impl RuleSet for Snort {
@@ -167,16 +149,13 @@ impl RuleSet for Snort {
     }
 
     fn score(&self, code: u32) -> Option<i16> {
-        let Some(c) = self.colours(code) else {
-            return None;
-        };
-        let left = self.legal(c.left, c.right);
-        let right = self.legal(c.right, c.left);
-        if left != 0 && right != 0 {
+        let colours = self.colours(code)?;
+        let choices = self.choices(colours);
+        if choices.both_have_some() {
             return None;
         }
-        let ours = (c.left | left).count_ones() as i16;
-        let theirs = (c.right | right).count_ones() as i16;
+        let ours = (colours.left | choices.left).count_ones() as i16;
+        let theirs = (colours.right | choices.right).count_ones() as i16;
         Some(ours - theirs)
     }
 
@@ -185,9 +164,7 @@ impl RuleSet for Snort {
     }
 
     fn option(&self, code: u32, side: Side, k: u8) -> Option<u32> {
-        match member(self.moves(code, side), k) {
-            Some(point) => Some(code + coloured(side, point)),
-            None => None,
-        }
+        let point = member(self.moves(code, side), k)?;
+        Some(code + coloured(side, point))
     }
 }

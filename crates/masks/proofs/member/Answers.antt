@@ -1,30 +1,22 @@
-use Rattle.std.proofs.Common.{◌≡◌, suc, ◌+◌, ◌-◌, ◌<◌, sym, ap, ◌∙◌, arith}
+use Rattle.std.proofs.Common.{◌≡◌, ℕ, zero, suc, Bool, List, [], ◌∷◌, Option, option_map, filter, slice_get, refl, sym, ap, ◌∙◌, rules}
+use Rattle.std.specs.List.{range_with_len}
+use Rattle.std.proofs.lemmas.Iterator.{YieldsList-from_range}
+use Rattle.std.proofs.lemmas.Iterator.Adapters.{option_map_id}
+use Rattle.std.proofs.lemmas.Iterator.Consumers.{YieldsList-from_filter, nth_from_yields_List}
 use Rattle.theory.specs.Trees.{at}
 use Rattle.masks.specs.Masks.{has, members}
-use Rattle.masks.proofs.Members.{members_start, member_here, member_next, member_passed}
 use Rattle.masks.proofs.member.Goals as goal
-use Rattle.masks.proofs.member.Goals.{then-has+else-left-eq0, else-has}
 
-pub loop-n-init : goal.loop-n-init
-loop-n-init c = λ r e. let q : r ≡ 16 = omega arith in ap (λ x. at (members (has c.args.mask) 0 x) c.args.k) q
+at-slice_get : (xs : List ℕ) (k : ℕ) → slice_get xs k ≡ at xs k
+at-slice_get [] k = refl
+at-slice_get (x ∷ xs) zero = refl
+at-slice_get (x ∷ xs) (suc k) = at-slice_get xs k
 
-pub returns-then-left-eq0 : goal.returns-then-left-eq0
-returns-then-left-eq0 c =
-    let h : c.loop-n.n + suc (15 - c.loop-n.n) ≡ 16 = omega arith in
-    sym (member_here (has c.args.mask) c.loop-n.n (15 - c.loop-n.n) c.loop-n.left (sym c.if-has.ensures) c.if-left-eq0.true) ∙ c.loop-n.invariant (suc (15 - c.loop-n.n)) h
-
-pub loop-n-preserved : goal.loop-n-preserved
-loop-n-preserved c =
-    λ r e. let h : c.loop-n.n + suc r ≡ 16 = omega arith in
-    elim c.if-has.branch [
-      | then-has+else-left-eq0 w ↦
-          let some : 0 < c.loop-n.left = omega arith in
-          ap (at (members (has c.args.mask) (c.loop-n.n + 1) r)) w.left-is ∙ member_next (has c.args.mask) c.loop-n.n r c.loop-n.left (sym c.has.ensures ∙ w.if-has.true) some ∙ c.loop-n.invariant (suc r) h
-      | else-has w ↦
-          ap (at (members (has c.args.mask) (c.loop-n.n + 1) r)) w.left-is ∙ member_passed (has c.args.mask) c.loop-n.n r c.loop-n.left (sym c.has.ensures ∙ w.if-has.false) ∙ c.loop-n.invariant (suc r) h
-    ]
+-- what `nth` gives of the numbers that pass
+at_members : (p : ℕ → Bool) (n j k : ℕ) (r : Option ℕ) → option_map (λ x. x) r ≡ slice_get (filter p (range_with_len 0 n)) j → j ≡ k → r ≡ at (members p 0 n) k
+unfolding members
+at_members p n j k r e same = sym (option_map_id r) ∙ e ∙ at-slice_get (members p 0 n) j ∙ ap (at (members p 0 n)) same
 
 pub returns : goal.returns
 returns c =
-    let h : c.loop-n.n + 0 ≡ 16 = omega arith in
-    sym (ap (λ l. at l c.loop-n.left) (members_start (has c.args.mask) c.loop-n.n)) ∙ c.loop-n.invariant 0 h
+    at_members (has c.args.mask) 16 _ c.args.k c.nth.result (nth_from_yields_List c.nth.result _ _ c.nth.ensures.ran (YieldsList-from_filter _ (has c.args.mask) (YieldsList-from_range 0 16 16 (cc) refl) c.filter.ensures.closure (λ x b q k. search rules))) c.from.ensures

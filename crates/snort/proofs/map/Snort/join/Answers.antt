@@ -2,7 +2,7 @@ use Rattle.std.proofs.Common.{◌≡◌, false, cond, ◌&&◌, ◌||◌, length
 use Rattle.std.proofs.lemmas.Bool.{true≢false}
 use Rattle.std.proofs.lemmas.Bool.Decides.{nat_tests}
 use Rattle.terms.specs.declared.fault.Refusal.TheVariants.{WrongEdge}
-use Rattle.masks.proofs.Bits.{or_false}
+use Rattle.std.proofs.Math.Bool.{or-false}
 use Rattle.snort.specs.Maps.{joined, edge, edge_fits}
 use Rattle.snort.proofs.Edges.{joined_fits, within_more, loopless_more, symmetric_more, fits_from}
 use Rattle.snort.specs.Codes.{by_the_rules}
@@ -43,7 +43,7 @@ returns-then-a-points c =
     let fits : edge_fits c.args.self.now.points c.args.a c.args.b ≡ false = grind (arith, nat_tests) in
     record {
       answer = sym (ap (λ b. cond b (Ok tt) (Err WrongEdge)) fits);
-      edges = λ x y. sym (ap (λ b. joined c.args.self.now.near x y || (b && edge c.args.a c.args.b x y)) fits ∙ or_false (joined c.args.self.now.near x y));
+      edges = λ x y. sym (ap (λ b. joined c.args.self.now.near x y || (b && edge c.args.a c.args.b x y)) fits ∙ or-false (joined c.args.self.now.near x y));
       points = refl;
       rules = by_the_rules c.args.self.now.points (joined c.args.self.now.near) c.args.self.now.size.1 c.args.self.now.symmetric;
       refused = λ e. refl;
