@@ -1,7 +1,10 @@
 -- Texts of numbers stand in the order of their numbers.
-use Rattle.std.proofs.Common.{◌≡◌, ℕ, ◌+◌, ◌-◌, ◌*◌, ◌<◌, ◌≤◌, Bool, true, false, cond, ◌&&◌, ◌||◌, eqb, ltb, ◌⊎◌, List, [], ◌∷◌, length, get_or, drop, Some, None, sym, refl, ap, ◌∙◌, subst, inl, inr, arith}
-use Rattle.std.proofs.lemmas.List.{drop_more, at_drop_all}
-use Rattle.std.proofs.lemmas.Bool.{cases_order, lt-ltb, le-ltb, eqb-false, ne_eqb, eq-eqb}
+use Rattle.std.proofs.Common.{◌≡◌, ℕ, ◌+◌, ◌-◌, ◌*◌, ◌<◌, ◌≤◌, Bool, true, false, cond, ◌&&◌, ◌||◌, eqb, ltb, ◌⊎◌, List, [], ◌∷◌, length, Option, Some, None, sym, refl, ap, ◌∙◌, subst, inl, inr, arith}
+use Rattle.std.proofs.lemmas.Bool.{cases_order, lt-ltb, le-ltb, eqb-true, eqb-false, ne_eqb, eq-eqb}
+use Rattle.std.specs.Ordering.{is_some_and, is_lt, nat_cmp, partial_ordering_then}
+use Rattle.std.specs.declared.cmp.Ordering.TheVariants.{Less, Equal, Greater}
+use Rattle.std.specs.declared.cmp.Ordering.{Ordering}
+use Rattle.std.specs.Cmp.Lexicographic.{slice_partial_cmp}
 use Rattle.numbers.specs.Numbers.{digit, after, natural, lower, less_text}
 use Rattle.numbers.specs.Laws.{Ordered}
 use Rattle.numbers.proofs.Written.{none_some, digit_true}
@@ -81,19 +84,19 @@ ordered xs ys m n e f = go (cases_order (length xs) (length ys))
     go (inr (inl q)) = first (length xs) (length ys) (lower xs ys) q ∙ sym (lt-ltb m n (shorter_less xs ys m n e f q))
     go (inr (inr q)) = second (length xs) (length ys) (lower xs ys) q ∙ sym (le-ltb m n (let k = shorter_less ys xs n m f e q in omega arith))
 
--- the turns of the loop
-pub lower_same : (xs ys : List ℕ) (i : ℕ) → i < length xs → i < length ys → get_or xs i 0 ≡ get_or ys i 0 → lower (drop i xs) (drop i ys) ≡ lower (drop (i + 1) xs) (drop (i + 1) ys)
-lower_same xs ys i h k e = (λ j. lower (drop_more xs i 0 h j) (drop_more ys i 0 k j)) ∙ same (get_or xs i 0) (get_or ys i 0) (lower (drop (i + 1) xs) (drop (i + 1) ys)) e
+-- what the library says of two pairs, by what it says of their seconds where their firsts are the same
+then_first : (a b : Bool) (o : Option Ordering) (l : Bool) → (b ≡ true → is_some_and is_lt o ≡ l) → is_some_and is_lt (partial_ordering_then (Some (cond a Less (cond b Equal Greater))) o) ≡ (a || (b && l))
+then_first true b o l h = refl
+then_first false true o l h = h refl
+then_first false false o l h = refl
 
-pub lower_differ : (xs ys : List ℕ) (i : ℕ) → i < length xs → i < length ys → (get_or xs i 0 ≡ get_or ys i 0 → ⊥) → lower (drop i xs) (drop i ys) ≡ ltb (get_or xs i 0) (get_or ys i 0)
-lower_differ xs ys i h k e = (λ j. lower (drop_more xs i 0 h j) (drop_more ys i 0 k j)) ∙ differ (get_or xs i 0) (get_or ys i 0) (lower (drop (i + 1) xs) (drop (i + 1) ys)) e
-  where
-    plain : (t : Bool) → (t || false) ≡ t
-    plain true = refl
-    plain false = refl
+-- of two texts as long as one another, the lower one stands first in the library's order of lists
+lower_first : (xs ys : List ℕ) → length xs ≡ length ys → is_some_and is_lt (slice_partial_cmp (λ x y. Some (nat_cmp x y)) xs ys) ≡ lower xs ys
+lower_first [] [] e = refl
+lower_first [] (y ∷ ys) e = absurd (omega arith)
+lower_first (x ∷ xs) [] e = absurd (omega arith)
+lower_first (x ∷ xs) (y ∷ ys) e = then_first (ltb x y) (eqb x y) (slice_partial_cmp (λ x y. Some (nat_cmp x y)) xs ys) (lower xs ys) (λ h. lower_first xs ys (omega arith))
 
-    differ : (x y : ℕ) (b : Bool) → (x ≡ y → ⊥) → (ltb x y || (eqb x y && b)) ≡ ltb x y
-    differ x y b q = ap (λ t. ltb x y || (t && b)) (ne_eqb x y q) ∙ plain (ltb x y)
-
-pub lower_end : (xs ys : List ℕ) (i : ℕ) → length xs ≤ i → lower (drop i xs) (drop i ys) ≡ false
-lower_end xs ys i h = at_drop_all (λ zs. lower zs (drop i ys)) xs i h
+-- the shorter text, or the lower of two as long, stands first in the library's order of pairs
+pub lower_is_less : (xs ys : List ℕ) → is_some_and is_lt (partial_ordering_then (Some (nat_cmp (length xs) (length ys))) (slice_partial_cmp (λ x y. Some (nat_cmp x y)) xs ys)) ≡ less_text xs ys
+lower_is_less xs ys = then_first (ltb (length xs) (length ys)) (eqb (length xs) (length ys)) (slice_partial_cmp (λ x y. Some (nat_cmp x y)) xs ys) (lower xs ys) (λ h. lower_first xs ys (eqb-true (length xs) (length ys) h))
