@@ -1,6 +1,7 @@
 -- The next line by its key, and by the word that it begins with.
 use Rattle.std.proofs.Common.{◌≡◌, ℕ, ◌+◌, Bool, true, false, cond, List, [], ◌∷◌, ◌++◌, Some, None, Ok, Err, codes, Option, Result, sym, refl, ap, ◌∙◌, subst, append_assoc, arith}
 use Rattle.std.specs.Str.{bytes_eq}
+use Rattle.std.specs.Option.{ok_or}
 use Rattle.std.proofs.ByRecursion.{All-append}
 use Rattle.std.proofs.lemmas.Slice.Eq.{bytes_eq-Decides}
 use Rattle.terms.specs.declared.fault.Fault.{Fault}
@@ -22,6 +23,11 @@ err_same e = cc
 
 pub err_ok : {X B : Type 0} {e : Fault} {x : X} → ◌≡◌ {A = Result X Fault} (Err e) (Ok x) → B
 err_ok e = let z : ◌≡◌ {A = ℕ} 0 1 = cc in absurd (omega arith)
+
+-- a refusal in place of nothing
+pub ok_or_stops : {X : Type 0} (o : Option X) (d e : Fault) → Err e ≡ ok_or o d → (o ≡ None) × (e ≡ d)
+ok_or_stops None d e q = (refl, err_same q)
+ok_or_stops (Some x) d e q = err_ok q
 
 -- the names of the keys
 pub name_clear : (k : Key) → Clear 10 (name k ++ codes "=")
@@ -66,12 +72,12 @@ named_name Edges = refl
 named_name Moves = refl
 named_name Move = refl
 
-named_sound : (ks : List Key) (text : List ℕ) (k : Key) → named_in ks text ≡ Some k → text ≡ name k
-named_sound [] text k e = none_some e
-named_sound (l ∷ ks) text k e = go (bytes_eq text (name l)) refl e (named_sound ks text k)
+pub named_sound : {A : Type 0} (word : A → List ℕ) (xs : List A) (text : List ℕ) (x : A) → named_in word xs text ≡ Some x → text ≡ word x
+named_sound word [] text x e = none_some e
+named_sound {A} word (y ∷ xs) text x e = go (bytes_eq text (word y)) refl e (named_sound word xs text x)
   where
-    go : (t : Bool) → bytes_eq text (name l) ≡ t → cond t (Some l) (named_in ks text) ≡ Some k → (named_in ks text ≡ Some k → text ≡ name k) → text ≡ name k
-    go true t e ih = (bytes_eq-Decides text (name l)).0 t ∙ ap name (some_same e)
+    go : (t : Bool) → bytes_eq text (word y) ≡ t → cond t (Some y) (named_in word xs text) ≡ Some x → (named_in word xs text ≡ Some x → text ≡ word x) → text ≡ word x
+    go true t e ih = (bytes_eq-Decides text (word y)).0 t ∙ ap word (some_same e)
     go false t e ih = ih e
 
 -- the word before a value
@@ -109,7 +115,7 @@ next_field s q t e =
     let b = with_value_ok (cut 61 a.0) a.1 s.line q t a.3 in
     let c = with_key_ok (named b.0) b.1 a.1 s.line q t b.3 in
     let d = cut_sound 61 a.0 b.0 b.1 b.2 in
-    let w = named_sound keys b.0 q.key c.0 in
+    let w = named_sound name keys b.0 q.key c.0 in
     let whole : a.0 ≡ (name q.key ++ codes "=") ++ q.value = d.1 ∙ ((λ i. w i ++ (61 ∷ c.1 i)) ∙ sym (worded q.key q.value)) in (
       ap (λ o. fielded (name q.key ++ codes "=") o s.line) a.2
           ∙ (ap (λ x. valued (strip (name q.key ++ codes "=") x) a.1 s.line) whole

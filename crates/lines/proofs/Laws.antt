@@ -6,13 +6,11 @@ use Rattle.std.proofs.lemmas.Bool.{cond-true, cond-false}
 use Rattle.terms.specs.declared.fault.Fault.{Fault}
 use Rattle.numbers.specs.Numbers.{judged}
 use Rattle.lines.specs.declared.key.Key.{Key}
-use Rattle.lines.specs.declared.reader.Reader.{Reader}
-use Rattle.lines.specs.Keys.{name}
-use Rattle.lines.specs.Reading.{then, State, at, Reading, done, ◌>>=◌, times, walk, Along, onto, starts}
+use Rattle.lines.specs.Keys.{name, named_in}
+use Rattle.lines.specs.Reading.{then, State, at, opened, fits, Reading, done, ◌>>=◌, times, walk, Along, onto, starts}
 use Rattle.lines.specs.Lines.{field, entry, form, line, either, is_next}
-use Rattle.lines.specs.Seen.{seen, gave}
 use Rattle.lines.proofs.Splits.{Clear}
-use Rattle.lines.proofs.Fields.{ok_same, err_ok, field_sound, field_complete, worded}
+use Rattle.lines.proofs.Fields.{ok_same, err_ok, err_same, named_sound, field_sound, field_complete, worded}
 
 pub then_ok : {X Y : Type 0} (r : Result X Fault) (f : X → Result Y Fault) (y : Y) → then r f ≡ Ok y → (x : X) × (r ≡ Ok x) × (f x ≡ Ok y)
 then_ok (Ok x) f y e = (x, refl, e)
@@ -20,6 +18,21 @@ then_ok (Err d) f y e = err_ok e
 
 pub then_run : {X Y : Type 0} (r : Result X Fault) (f : X → Result Y Fault) (x : X) → r ≡ Ok x → then r f ≡ f x
 then_run r f x e = ap (λ q. then q f) e
+
+-- a reader before the first line, or the refusal of a job that is too long
+pub opened_stops : (job : List ℕ) (d : Fault) → Err d ≡ opened job → Err d ≡ fits job
+opened_stops job d e = go (fits job) e
+  where
+    go : (r : Result (Unit {0}) Fault) → Err d ≡ then r (λ _. Ok (at job 1)) → Err d ≡ r
+    go (Ok u) e = err_ok e
+    go (Err c) e = ap Err (err_same e)
+
+pub opened_at : (job : List ℕ) (s : State) → Ok s ≡ opened job → (Ok tt ≡ fits job) × (s ≡ at job 1)
+opened_at job s e = go (fits job) e
+  where
+    go : (r : Result (Unit {0}) Fault) → Ok s ≡ then r (λ _. Ok (at job 1)) → (Ok tt ≡ r) × (s ≡ at job 1)
+    go (Ok u) e = (refl, ok_same e)
+    go (Err c) e = err_ok (sym e)
 
 -- a value, read whole
 pub record Whole {A : Type 0} (read : List ℕ → ℕ → Result A Fault) (w : A → List ℕ) (Good : A → Type 0) : Type 0 where
@@ -110,6 +123,10 @@ form_whole {A} read w Good sound complete clear = record {
     formed None n a e = err_ok e
     formed (Some b) n a e = ap Some (ok_same e)
 
+-- one of some words
+pub word_whole : {A : Type 0} (word : A → List ℕ) (xs : List A) → ((a : A) → named_in word xs (word a) ≡ Some a) → ((a : A) → Clear 10 (word a)) → Whole (form (named_in word xs)) word (λ a. Unit {0})
+word_whole word xs complete clear = form_whole (named_in word xs) word (λ a. Unit {0}) (λ v a e. (tt, named_sound word xs v a e)) (λ a g. complete a) (λ a g. clear a)
+
 -- a number of things, and then that many of them
 pub counted : {A : Type 0} (count : Reading ℕ) (v : ℕ → List ℕ) (Few : ℕ → Type 0) → Reads count v Few → (p : Reading A) (w : A → List ℕ) (Good : A → Type 0) → Reads p w Good → Reads (◌>>=◌ count (λ n. times n p)) (λ xs. v (length xs) ++ flat_map w xs) (λ xs. Few (length xs) × AllByRecursion Good xs)
 counted count v Few c p w Good h = record {
@@ -154,37 +171,8 @@ done_reads x = record {
   complete = λ a r n g. (n, ap (λ y. Ok (y, at r n)) (sym g));
 }
 
--- a value's own rule after its line
-pub entry_gave : {A : Type 0} (k : Key) (value : List ℕ → ℕ → Result A Fault) (s : State) (v : List ℕ) (n : ℕ) (t : Reader) (r : Result A Fault) → Ok ((v, n), seen t) ≡ field k s → r ≡ value v n → gave r t ≡ entry k value s
-entry_gave k value s v n t r e f = gave_then r ∙ (ap (λ q. then q (λ a. Ok (a, seen t))) f ∙ ap (λ q. then q (λ q. then (value q.0.0 q.0.1) (λ a. Ok (a, q.1)))) e)
-  where
-    gave_then : {A : Type 0} (r : Result A Fault) → gave r t ≡ then r (λ a. Ok (a, seen t))
-    gave_then (Ok a) = refl
-    gave_then (Err e) = refl
-
 pub entry_stops : {A : Type 0} (k : Key) (value : List ℕ → ℕ → Result A Fault) (s : State) (e : Fault) → Err e ≡ field k s → Err e ≡ entry k value s
 entry_stops k value s e f = ap (λ q. then q (λ q. then (value q.0.0 q.0.1) (λ a. Ok (a, q.1)))) f
-
--- the turns of a loop that reads one thing after another
-pub times_none : {A : Type 0} (xs : List A) (p : Reading A) (s : State) → onto xs (times zero p s) ≡ Ok (xs, s)
-times_none xs p s = ap (λ ys. Ok (ys, s)) (append-nil xs)
-
-pub times_more : {A : Type 0} (xs : List A) (k : ℕ) (p : Reading A) (s : State) (a : A) (t : State) → Ok (a, t) ≡ p s → onto xs (times (suc k) p s) ≡ onto (xs ++ (a ∷ [])) (times k p t)
-times_more {A} xs k p s a t e = ap (λ r. onto xs (then r (λ q. then (times k p q.1) (λ z. Ok (q.0 ∷ z.0, z.1))))) (sym e) ∙ more (times k p t)
-  where
-    more : (r : Result (List A × State) Fault) → onto xs (then r (λ z. Ok (a ∷ z.0, z.1))) ≡ onto (xs ++ (a ∷ [])) r
-    more (Ok q) = ap (λ ys. Ok (ys, q.1)) (sym (append_assoc xs (a ∷ []) q.0))
-    more (Err d) = refl
-
-pub times_stops : {A : Type 0} (xs : List A) (k : ℕ) (p : Reading A) (s : State) (d : Fault) → Err d ≡ p s → onto xs (times (suc k) p s) ≡ Err d
-times_stops xs k p s d e = ap (λ r. onto xs (then r (λ q. then (times k p q.1) (λ z. Ok (q.0 ∷ z.0, z.1))))) (sym e)
-
-pub times_first : {A : Type 0} (n : ℕ) (p : Reading A) (s : State) → onto [] (times n p s) ≡ times n p s
-times_first {A} n p s = same (times n p s)
-  where
-    same : (r : Result (List A × State) Fault) → onto [] r ≡ r
-    same (Ok q) = refl
-    same (Err d) = refl
 
 -- a step of a longer reading
 pub bind_run : {A B : Type 0} (p : Reading A) (f : A → Reading B) (s : State) (a : A) (t : State) → Ok (a, t) ≡ p s → f a t ≡ ◌>>=◌ p f s
@@ -209,28 +197,6 @@ map_reads c p w G v H same to from h = record {
         y.0,
         ap (λ z. ◌>>=◌ p (λ a. done (c a)) (at (z ++ r) n)) (ap v k.1 ∙ same k.0)
             ∙ (then_run _ _ _ y.1 ∙ ap (λ z. Ok (z, at r y.0)) (sym k.1)),
-      );
-}
-
--- of two things, one after the other
-pub map2_reads : {A B C : Type 0} (c : A → B → C) (p : Reading A) (w : A → List ℕ) (G : A → Type 0) (q : Reading B) (u : B → List ℕ) (F : B → Type 0) (v : C → List ℕ) (H : C → Type 0) → ((a : A) (b : B) → v (c a b) ≡ w a ++ u b) → ((a : A) (b : B) → G a → F b → H (c a b)) → ((x : C) → H x → (a : A) × (b : B) × (x ≡ c a b) × G a × F b) → Reads p w G → Reads q u F → Reads (◌>>=◌ p (λ a. ◌>>=◌ q (λ b. done (c a b)))) v H
-map2_reads c p w G q u F v H same to from h k = record {
-  sound = λ s x t e.
-      let f = then_ok (p s) _ _ e in
-      let g = then_ok (q f.0.1) _ _ f.2 in
-      let z = ok_same g.2 in
-      let y = h.sound s f.0.0 f.0.1 f.1 in
-      let y' = k.sound f.0.1 g.0.0 g.0.1 g.1 in (
-        subst H (ap (λ r. r.0) z) (to f.0.0 g.0.0 y.0 y'.0),
-        y.1 ∙ (ap (λ r. w f.0.0 ++ r) y'.1 ∙ (sym (append_assoc (w f.0.0) (u g.0.0) g.0.1.rest) ∙ (ap (λ r. r ++ g.0.1.rest) (sym (same f.0.0 g.0.0)) ∙ ap (λ r. v r.0 ++ r.1.rest) z))),
-      );
-  complete = λ x r n g.
-      let m = from x g in
-      let y = h.complete m.0 (u m.1 ++ r) n m.3 in
-      let y' = k.complete m.1 r y.0 m.4 in (
-        y'.0,
-        ap (λ z. ◌>>=◌ p (λ a. ◌>>=◌ q (λ b. done (c a b))) (at z n)) (ap (λ z. z ++ r) (ap v m.2 ∙ same m.0 m.1) ∙ append_assoc (w m.0) (u m.1) r)
-            ∙ (then_run _ _ _ y.1 ∙ (then_run _ _ _ y'.1 ∙ ap (λ z. Ok (z, at r y'.0)) (sym m.2))),
       );
 }
 

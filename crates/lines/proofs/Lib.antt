@@ -5,3 +5,5 @@ pub mod Laws
 pub mod Counts
 pub mod Commas
 pub mod Turns
+pub mod Words
+pub mod Cases

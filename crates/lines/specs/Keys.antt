@@ -21,10 +21,10 @@ name Move = codes "move"
 abbrev pub keys : List Key
 keys = Side ∷ First ∷ Parts ∷ Rules ∷ Rows ∷ End ∷ Left ∷ Right ∷ Points ∷ Edges ∷ Moves ∷ Move ∷ []
 
--- the first of some keys that has this name
-abbrev pub named_in : List Key → List ℕ → Option Key
-named_in [] text = None
-named_in (k ∷ ks) text = cond (bytes_eq text (name k)) (Some k) (named_in ks text)
+-- the first of some things of which this is the word
+abbrev pub named_in : {A : Type 0} → (A → List ℕ) → List A → List ℕ → Option A
+named_in word [] text = None
+named_in word (x ∷ xs) text = cond (bytes_eq text (word x)) (Some x) (named_in word xs text)
 
 abbrev pub named : List ℕ → Option Key
-named text = named_in keys text
+named text = named_in name keys text

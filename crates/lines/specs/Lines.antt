@@ -4,6 +4,7 @@ use Rattle.terms.specs.declared.fault.Fault.{Fault}
 use Rattle.terms.specs.declared.fault.Refusal.TheVariants.{WrongLine}
 use Rattle.terms.specs.Refusals.{fault}
 use Rattle.numbers.specs.Numbers.{judged}
+use Rattle.numbers.specs.declared.text.Text.{Text}
 use Rattle.lines.specs.declared.key.Key.{Key}
 use Rattle.lines.specs.declared.key.Key.TheVariants as keyed
 use Rattle.lines.specs.declared.key.Line.{Line}
@@ -11,6 +12,11 @@ use Rattle.lines.specs.declared.key.Line.TheVariants as lined
 use Rattle.lines.specs.Keys.{name, named}
 use Rattle.lines.specs.Reading.{State, at, Reading, then, cut, starts}
 
+-- the text of a line: key=value and byte 10
+unfoldable pub line : Key → List ℕ → List ℕ
+line k value = name k ++ (61 ∷ (value ++ (10 ∷ [])))
+
+-- the key and the value of a line
 abbrev pub key_of : Line → Key
 key_of (lined.Side v) = keyed.Side
 key_of (lined.First v) = keyed.First
@@ -25,23 +31,19 @@ key_of (lined.Edges v) = keyed.Edges
 key_of (lined.Moves v) = keyed.Moves
 key_of (lined.Move v) = keyed.Move
 
-abbrev pub value_of : Line → List ℕ
-value_of (lined.Side v) = v.now
-value_of (lined.First v) = v.now
-value_of (lined.Parts v) = v.now
-value_of (lined.Rules v) = v.now
-value_of (lined.Rows v) = v.now
-value_of (lined.End v) = v.now
-value_of (lined.Left v) = v.now
-value_of (lined.Right v) = v.now
-value_of (lined.Points v) = v.now
-value_of (lined.Edges v) = v.now
-value_of (lined.Moves v) = v.now
-value_of (lined.Move v) = v.now
-
--- the text of a line: key=value and byte 10
-unfoldable pub line : Key → List ℕ → List ℕ
-line k value = name k ++ (61 ∷ (value ++ (10 ∷ [])))
+abbrev pub value_of : Line → Text
+value_of (lined.Side v) = v
+value_of (lined.First v) = v
+value_of (lined.Parts v) = v
+value_of (lined.Rules v) = v
+value_of (lined.Rows v) = v
+value_of (lined.End v) = v
+value_of (lined.Left v) = v
+value_of (lined.Right v) = v
+value_of (lined.Points v) = v
+value_of (lined.Edges v) = v
+value_of (lined.Moves v) = v
+value_of (lined.Move v) = v
 
 -- what a line says: its key, its value and its number
 pub record Said : Type 0 where

@@ -30,6 +30,10 @@ longest = 16384
 abbrev pub fits : List ℕ → Result (Unit {0}) Fault
 fits job = cond (nat_le (length job) longest) (Ok tt) (Err (fault JobTooLong 0))
 
+-- before the first line of a job
+abbrev pub opened : List ℕ → Result State Fault
+opened job = then (fits job) (λ _. Ok (at job 1))
+
 abbrev pub Reading : Type 0 → Type 0
 Reading A = State → Result (A × State) Fault
 
@@ -83,8 +87,3 @@ abbrev pub starts : List ℕ → List ℕ → Bool
 starts [] xs = true
 starts (p ∷ ps) [] = false
 starts (p ∷ ps) (x ∷ xs) = x == p && starts ps xs
-
--- how many bytes stand before the first b, or all of them
-abbrev pub before : ℕ → List ℕ → ℕ
-before b [] = 0
-before b (x ∷ xs) = cond (x == b) 0 (suc (before b xs))

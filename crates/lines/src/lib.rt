@@ -4,10 +4,12 @@
 
 mod cuts;
 mod key;
+mod pieces;
 mod read;
 mod reader;
 
-pub use cuts::{cut, is};
+pub use cuts::cut;
 pub use key::{Key, Line};
+pub use pieces::Pieces;
 pub use read::{at_line, check_length};
 pub use reader::Reader;

@@ -1,15 +1,19 @@
-use Rattle.std.proofs.Common.{◌≡◌, ◌+◌, ◌-◌, take, drop, Some, sym, ap, ◌∙◌, arith}
+use Rattle.std.proofs.Common.{◌≡◌, ◌+◌, eqb, take, Some, sym, ap, ◌∙◌, rules, tests}
+use Rattle.std.specs.List.{position}
+use Rattle.std.proofs.lemmas.Iterator.{YieldsList-from_slice}
+use Rattle.std.proofs.lemmas.Iterator.Search.{position_from_yields_List}
 use Rattle.std.proofs.lemmas.List.{take_rest}
-use Rattle.lines.specs.Reading.{before}
-use Rattle.lines.proofs.Finds.{cut_there, cut_nowhere}
+use Rattle.lines.proofs.Finds.{halves, cut_halves}
 use Rattle.lines.proofs.cuts.cut.Goals as goal
 
-pub returns-then-n-text : goal.returns-then-n-text
-returns-then-n-text c =
+pub returns-in_err-n : goal.returns-in_err-n
+returns-in_err-n c =
     let xs = c.args.text.now in
-    let q : c.find-n.result - 0 ≡ before c.args.b xs = omega arith in
-    let p = take_rest xs (c.find-n.result + 1) ∙ ap (λ k. drop (k + 1) xs) c.find-n.ensures in
-    (λ i. Some (take (q i) xs, p i)) ∙ sym (cut_there c.args.b xs (omega arith))
+    let found : c.position.result ≡ position (λ x. eqb x c.args.b) xs = position_from_yields_List (λ x. eqb x c.args.b) _ _ c.position.result c.position.ensures.ran (YieldsList-from_slice xs c.iter.ensures.rest) (λ x t q k. search (rules, tests)) in
+    rw c.from_residual.ensures (ap (halves xs) (sym c.in_err-n.was) ∙ cut_halves c.args.b xs c.position.result found)
 
-pub returns-else-n-text : goal.returns-else-n-text
-returns-else-n-text c = sym (cut_nowhere c.args.b c.args.text.now (omega arith))
+pub returns : goal.returns
+returns c =
+    let xs = c.args.text.now in
+    let found : c.position.result ≡ position (λ x. eqb x c.args.b) xs = position_from_yields_List (λ x. eqb x c.args.b) _ _ c.position.result c.position.ensures.ran (YieldsList-from_slice xs c.iter.ensures.rest) (λ x t q k. search (rules, tests)) in
+    ap (λ p. Some (take c.in_ok-n.n xs, p)) (take_rest xs (c.in_ok-n.n + 1)) ∙ (ap (halves xs) (sym c.in_ok-n.was) ∙ cut_halves c.args.b xs c.position.result found)

@@ -1,4 +1,6 @@
-use Rattle.std.proofs.Common.{Ok, sym, ap, ◌∙◌}
+use Rattle.std.proofs.Common.{Ok, Err, sym, ap, ◌∙◌}
+use Rattle.terms.specs.declared.fault.Refusal.TheVariants.{WrongLine}
+use Rattle.terms.specs.Refusals.{fault}
 use Rattle.lines.specs.Seen.{seen}
 use Rattle.std.proofs.lemmas.Result.{err_from_is_err_and}
 use denote.Enum.Bare.{differs_true, differs_false}
@@ -13,11 +15,12 @@ returns-in_err-line c =
 
 pub returns-then-ne : goal.returns-then-ne
 returns-then-ne c =
-    other_key c.args.key (seen c.args.self.now) _ _ c.in_ok-line.ensures
-    (λ e. differs_true the_type _ _ (sym c.ne.ensures ∙ c.if-ne.true) (c.parts-found.ensures.key ∙ e))
+    ap Err (c.at.ensures ∙ ap (λ t. fault WrongLine t.line) c.value-value.ensures)
+    ∙ other_key c.args.key (seen c.args.self.now) _ _ c.in_ok-line.ensures
+    (λ e. differs_true the_type _ _ (sym c.ne.ensures ∙ c.if-ne.true) (c.key.ensures ∙ e))
 
 pub returns : goal.returns
 returns c =
-    ap (λ v. Ok ((v, c.in_ok-line.number), seen c.next_line.new.self)) c.parts-found.ensures.value
+    ap (λ t. Ok ((t.bytes.now, t.line), seen c.next_line.new.self)) c.value-value.ensures
     ∙ same_key c.args.key (seen c.args.self.now) _ _ c.in_ok-line.ensures
-    (sym c.parts-found.ensures.key ∙ differs_false the_type tt _ _ (sym c.ne.ensures ∙ c.if-ne.false))
+    (sym c.key.ensures ∙ differs_false the_type tt _ _ (sym c.ne.ensures ∙ c.if-ne.false))
