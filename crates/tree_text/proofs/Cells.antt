@@ -1,20 +1,16 @@
 -- Buffers that begin with a list and are blank after it.
-use Rattle.std.proofs.Common.{◌≡◌, ℕ, zero, suc, ◌+◌, ◌-◌, ◌<◌, min, ◌≢◌, ◌⊎◌, List, [], ◌∷◌, ◌++◌, length, get_or, take, set, replicate, pos, Ok, Err, Result, sym, refl, ap, ◌∙◌, subst, inl, inr, append_assoc, append-nil, arith, length-append, length-take}
-use Rattle.std.proofs.lemmas.List.{get_or-set_same, get_or-set_other, get_or_append_left, get_or_push, get_or_past, take_more}
-use Rattle.std.proofs.lemmas.Bool.{cases_order}
+use Rattle.std.proofs.Common.{◌≡◌, ℕ, suc, ◌+◌, ◌-◌, ◌<◌, ◌≤◌, min, ◌≢◌, ◌⊎◌, List, [], ◌∷◌, ◌++◌, length, get_or, take, drop, set, Ok, Err, Result, sym, refl, ap, ap₂, ◌∙◌, subst, inl, inr, append_assoc, append-nil, arith, length-append, length-take, length-drop}
+use Rattle.std.proofs.lemmas.List.{get_or-set_same, get_or-set_other, get_or-take, get_or-drop, get_or-append_right, get_or_append_left, get_or_push, get_or_past}
+use Rattle.std.proofs.lemmas.Bool.{cases_order, cases_lt}
+use borrow.Rule.Slice.PartMut.{put_mid}
 use Rattle.trees.specs.declared.row.TreeRow.{TreeRow}
-use Rattle.tree_text.specs.declared.links.Links.{Links}
-use Rattle.tree_text.specs.declared.row.Row as code
-use Rattle.tree_text.specs.declared.row.Row.TheVariants.{Open}
 use Rattle.trees.specs.Written.{blank, pick_limit}
 use Rattle.terms.specs.declared.fault.Fault.{Fault}
 use Rattle.lines.specs.declared.key.Key.TheVariants as key
 use Rattle.lines.specs.Lines.{entry}
 use Rattle.lines.specs.Reading.{State, then, led, walk, onto}
-use Rattle.lines.proofs.Laws.{walk_stops, walk_more, walk_none}
-use Rattle.tree_text.specs.declared.place.Place.{Place}
-use Rattle.tree_text.specs.Rows.{Row, picked, after_row, top, row_lines, row_count, tree_lines}
-use Rattle.tree_text.specs.Seen.{listed, as_row}
+use Rattle.lines.proofs.Laws.{walk_more}
+use Rattle.tree_text.specs.Rows.{Place, Row, picked, after_row, top, row_lines, row_count, tree_lines}
 use Rattle.tree_text.specs.Written.{Content, Holds, Blank, ReadRows, ReadPart, row_at, rows_from, picks_of}
 
 -- one cell more
@@ -28,29 +24,40 @@ content_push {A} none cells xs i v n h c k = go (cases_order k i)
         let ne : k ≢ i = omega arith in
         get_or-set_other cells i k v none ne ∙ (c k ∙ (get_or_past xs k none (omega arith) ∙ sym (get_or_past (xs ++ (v ∷ [])) k none (omega (arith, length-append xs (v ∷ []))))))
 
--- a loop that copies: one element more
-pub copied_more : (cells ys list : List ℕ) (i a : ℕ) → length ys ≡ a → a + i < length cells → i < length list → Content 0 cells (ys ++ take i list) → Content 0 (set cells (a + i) (get_or list i 0)) (ys ++ take (i + 1) list)
-copied_more cells ys list i a n h l c =
-    let long : length (ys ++ take i list) ≡ a + i = omega (arith, length-append ys (take i list), length-take i list) in
-    let p = content_push 0 cells (ys ++ take i list) (a + i) (get_or list i 0) long h c in
-    subst (Content 0 (set cells (a + i) (get_or list i 0))) (append_assoc ys (take i list) (get_or list i 0 ∷ []) ∙ ap (λ zs. ys ++ zs) (sym (take_more list i 0 l))) p
+-- a list written behind another
+pub content_write : (cells ys xs : List ℕ) (a k : ℕ) → length ys ≡ a → length xs ≡ k → a + k ≤ length cells → Content 0 cells ys → Content 0 (put_mid a k cells xs) (ys ++ xs)
+content_write cells ys xs a k n m h c i = go (cases_lt i a) (cases_lt i (a + k))
+  where
+    go : (i < a) ⊎ (a ≤ i) → (i < a + k) ⊎ (a + k ≤ i) → get_or (put_mid a k cells xs) i 0 ≡ get_or (ys ++ xs) i 0
+    go (inl l) r = get_or_append_left (take a cells) _ 0 i (omega (arith, length-take a cells)) ∙ (get_or-take a cells i 0 l ∙ (c i ∙ sym (get_or_append_left ys xs 0 i (omega arith))))
+    go (inr g) (inl l) =
+        get_or-append_right (take a cells) _ a i 0 (omega (arith, length-take a cells)) g
+        ∙ (get_or_append_left xs _ 0 (i - a) (omega arith) ∙ sym (get_or-append_right ys xs a i 0 n g))
+    go (inr g) (inr r) =
+        let j : k + (i - a - k) ≡ i - a = omega arith in
+        let e : a + (i - a) ≡ i = omega arith in
+        get_or-append_right (take a cells) _ a i 0 (omega (arith, length-take a cells)) g
+        ∙ (get_or-append_right xs _ k (i - a) 0 m (omega arith)
+        ∙ (get_or-drop k (drop a cells) (i - a - k) 0
+        ∙ (ap (λ o. get_or (drop a cells) o 0) j
+        ∙ (get_or-drop a cells (i - a) 0
+        ∙ (ap (λ o. get_or cells o 0) e
+        ∙ (c i ∙ (get_or_past ys i 0 (omega arith) ∙ sym (get_or_past (ys ++ xs) i 0 (omega (arith, length-append ys xs))))))))))
 
--- an open row, as it is written down
-pub open_row : (used : ℕ) (row : code.Row) (l r : Links) → row ≡ Open l r → length (listed l) ≡ l.used → length (listed r) ≡ r.used → ◌≡◌ {A = TreeRow} (record { score = pos 0; left = record { begin = used; count = l.used }; right = record { begin = used + l.used; count = r.used } }) (row_at used (as_row row))
-open_row used row l r e m n = (λ i. record { score = pos 0; left = record { begin = used; count = sym m i }; right = record { begin = used + sym m i; count = sym n i } }) ∙ ap (λ x. row_at used (as_row x)) (sym e)
+-- a buffer of which the first cells were written
+pub content_part : {A : Type 0} (none : A) (part whole xs : List A) (n : ℕ) → length part ≡ n → Content none whole [] → Content none part xs → Content none (part ++ drop n whole) xs
+content_part none part whole xs n e blank c k = go (cases_lt k n)
+  where
+    go : (k < n) ⊎ (n ≤ k) → get_or (part ++ drop n whole) k none ≡ get_or xs k none
+    go (inl l) = get_or_append_left part (drop n whole) none k (omega arith) ∙ c k
+    go (inr g) = get_or-append_right part (drop n whole) n k none e g ∙ (get_or-drop n whole (k - n) none ∙ (blank (n + (k - n)) ∙ (sym (get_or_past part k none (omega arith)) ∙ c k)))
 
-pub open_picks : (before middle after : List ℕ) (used : ℕ) (row : code.Row) (l r : Links) → row ≡ Open l r → length (listed l) ≡ l.used
-    → ((ys : List ℕ) → length ys ≡ used → Content 0 before ys → Content 0 middle (ys ++ listed l))
-    → ((ys : List ℕ) → length ys ≡ used + l.used → Content 0 middle ys → Content 0 after (ys ++ listed r))
-    → (ys : List ℕ) → length ys ≡ used → Content 0 before ys → Content 0 after (ys ++ picked (as_row row))
-open_picks before middle after used row l r e m first second ys n h =
-    subst (Content 0 after) (append_assoc ys (listed l) (listed r) ∙ ap (λ x. ys ++ picked (as_row x)) (sym e))
-    (second (ys ++ listed l) (omega (arith, length-append ys (listed l))) (first ys n h))
-
-pub replicated : {A : Type 0} (n : ℕ) (none : A) (k : ℕ) → get_or (replicate n none) k none ≡ none
-replicated zero none k = refl
-replicated (suc n) none zero = refl
-replicated (suc n) none (suc k) = replicated n none k
+pub open_picks : (before middle after left right : List ℕ) (used : ℕ)
+    → ((ys : List ℕ) → length ys ≡ used → Content 0 before ys → Content 0 middle (ys ++ left))
+    → ((ys : List ℕ) → length ys ≡ used + length left → Content 0 middle ys → Content 0 after (ys ++ right))
+    → (ys : List ℕ) → length ys ≡ used → Content 0 before ys → Content 0 after (ys ++ (left ++ right))
+open_picks before middle after left right used first second ys n h =
+    subst (Content 0 after) (append_assoc ys left right) (second (ys ++ left) (omega (arith, length-append ys left)) (first ys n h))
 
 -- rows and picks, one row more
 rows_push : (used : ℕ) (xs : List Row) (x : Row) → rows_from used (xs ++ (x ∷ [])) ≡ rows_from used xs ++ (row_at (used + length (picks_of xs)) x ∷ [])
@@ -105,15 +112,6 @@ turn_first n room s = let q : n - 0 ≡ n = omega arith in ap (λ k. onto [] (wa
     same (Ok q) = refl
     same (Err d) = refl
 
-pub turn_stops : (n room : ℕ) (xs : List Row) (i used : ℕ) (s s₀ : State) (e : Fault) → i < n
-    → Err e ≡ row_lines (n - 1) room (record { row = i; used = used }) s
-    → onto xs (walk (row_lines (n - 1) room) after_row (record { row = i; used = used }) (n - i) s) ≡ walk (row_lines (n - 1) room) after_row top n s₀
-    → walk (row_lines (n - 1) room) after_row top n s₀ ≡ Err e
-turn_stops n room xs i used s s₀ e h q inv =
-    let k : n - i ≡ suc (n - (i + 1)) = omega arith in
-    sym inv ∙ (ap (λ m. onto xs (walk (row_lines (n - 1) room) after_row (record { row = i; used = used }) m s)) k
-    ∙ walk_stops xs (n - (i + 1)) (row_lines (n - 1) room) after_row (record { row = i; used = used }) s e q)
-
 pub turn_more : (n room : ℕ) (xs : List Row) (i used : ℕ) (s s₀ : State) (x : Row) (t : State) (next : ℕ) → i < n
     → Ok (x, t) ≡ row_lines (n - 1) room (record { row = i; used = used }) s
     → used + length (picked x) ≡ next
@@ -125,11 +123,6 @@ turn_more n room xs i used s s₀ x t next h q u inv =
     ∙ (sym (walk_more xs (n - (i + 1)) (row_lines (n - 1) room) after_row (record { row = i; used = used }) s x t q)
     ∙ (ap (λ m. onto xs (walk (row_lines (n - 1) room) after_row (record { row = i; used = used }) m s)) (sym k) ∙ inv))
 
-pub turn_last : (n room : ℕ) (xs : List Row) (i used : ℕ) (s s₀ : State) → n - i ≡ 0
-    → onto xs (walk (row_lines (n - 1) room) after_row (record { row = i; used = used }) (n - i) s) ≡ walk (row_lines (n - 1) room) after_row top n s₀
-    → walk (row_lines (n - 1) room) after_row top n s₀ ≡ Ok (xs, s)
-turn_last n room xs i used s s₀ z inv = sym inv ∙ (ap (λ m. onto xs (walk (row_lines (n - 1) room) after_row (record { row = i; used = used }) m s)) z ∙ walk_none xs (row_lines (n - 1) room) after_row (record { row = i; used = used }) s)
-
 -- how many rows, and then the rows
 part_more : (lent room : ℕ) (s : State) (n : ℕ) (t : State) → Ok (n, t) ≡ entry key.Rows (row_count lent) s → tree_lines lent room s ≡ walk (row_lines (n - 1) room) after_row top n t
 unfolding tree_lines
@@ -139,8 +132,17 @@ pub part_stops : (lent room : ℕ) (s : State) (e : Fault) → Err e ≡ entry k
 unfolding tree_lines
 part_stops lent room s e q = ap (λ r. then r (λ q. walk (row_lines (q.0 - 1) room) after_row top q.0 q.1)) (sym q)
 
-pub part_read : (lent room : ℕ) (s : State) (n : ℕ) (s₁ : State) (r : Result (Unit {0}) Fault) (t : State) (rows : List TreeRow) (picks : List ℕ)
-    → lent ≡ length rows → room ≡ min (length picks) pick_limit
-    → Ok (n, s₁) ≡ entry key.Rows (row_count lent) s → ReadRows n room s₁ r t rows picks → ReadPart s r t rows picks
-part_read lent room s n s₁ (Ok u) t rows picks p q e w = (w.0, (λ i. tree_lines (sym p i) (sym q i) s) ∙ (part_more lent room s n s₁ e ∙ w.1), w.2)
-part_read lent room s n s₁ (Err d) t rows picks p q e w = (λ i. tree_lines (sym p i) (sym q i) s) ∙ (part_more lent room s n s₁ e ∙ w)
+module _ (rows : List TreeRow) (picks : List ℕ) (rows₁ : List TreeRow) (picks₁ : List ℕ) (n room : ℕ) (a : length rows₁ ≡ n) (b : n ≤ length rows) (c : length picks₁ ≡ room) (d : room ≡ min (length picks) pick_limit) (blank : Blank rows picks) where
+  rows_same : length rows ≡ length (rows₁ ++ drop n rows)
+  rows_same = omega (arith, length-append rows₁ (drop n rows), length-drop n rows)
+
+  room_same : room ≡ min (length (picks₁ ++ drop room picks)) pick_limit
+  room_same = omega (arith, length-append picks₁ (drop room picks), length-drop room picks)
+
+  pub part_read : (s s₁ t : State) (r : Result (Unit {0}) Fault) → Ok (n, s₁) ≡ entry key.Rows (row_count (length rows)) s → ReadRows n room s₁ r t rows₁ picks₁ → ReadPart s r t (rows₁ ++ drop n rows) (picks₁ ++ drop room picks)
+  part_read s s₁ t (Ok u) e w = (
+    w.0,
+    ap₂ (λ i j. tree_lines i j s) (sym rows_same) (sym room_same) ∙ (part_more (length rows) room s n s₁ e ∙ w.1),
+    (content_part _ rows₁ rows (rows_from 0 w.0) n a blank.0 w.2.0, content_part 0 picks₁ picks (picks_of w.0) room c blank.1 w.2.1),
+  )
+  part_read s s₁ t (Err x) e w = ap₂ (λ i j. tree_lines i j s) (sym rows_same) (sym room_same) ∙ (part_more (length rows) room s n s₁ e ∙ w)

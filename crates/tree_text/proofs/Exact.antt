@@ -18,8 +18,7 @@ use Rattle.lines.proofs.Splits.{Clear, some_same}
 use Rattle.lines.proofs.Fields.{ok_same, err_ok}
 use Rattle.lines.proofs.Laws.{Whole, Reads, then_ok, then_run, entry_reads, form_whole, map_reads, either_reads, reads_as, counted_walk}
 use Rattle.lines.proofs.Counts.{upto_sound, upto_complete, written_clear}
-use Rattle.tree_text.specs.declared.place.Place.{Place}
-use Rattle.tree_text.specs.Rows.{Row, leaf, fork, list_of, list_line, behind, leaf_line, fork_lines, row_lines, at_least_one, row_count, tree_lines, after_row, top, links_text, row_text, tree_text, GoodLinks, GoodRow, GoodTree}
+use Rattle.tree_text.specs.Rows.{Place, Row, leaf, fork, list_of, list_line, behind, leaf_line, fork_lines, row_lines, at_least_one, row_count, tree_lines, after_row, top, links_text, row_text, tree_text, GoodLinks, GoodRow, GoodTree}
 use Rattle.tree_text.proofs.Lists.{judged_ok, list_whole}
 
 -- scores

@@ -1,9 +1,8 @@
 -- Lists of row numbers: what is read is what is written, and the turns of the loops that read them.
-use Rattle.std.proofs.Common.{◌≡◌, ℕ, ◌+◌, ◌<◌, ◌≤◌, Bool, true, false, cond, ◌&&◌, ltb, leb, List, [], ◌∷◌, ◌++◌, map, length, get_or, drop, Some, None, Ok, Err, Option, refl, ap, ◌∙◌, subst, append-nil, arith, length-append}
+use Rattle.std.proofs.Common.{◌≡◌, ℕ, ◌+◌, ◌<◌, ◌≤◌, Bool, true, false, cond, ltb, leb, List, [], ◌∷◌, ◌++◌, map, length, Some, None, Ok, Err, Option, refl, ap, ◌∙◌, subst, append-nil, arith, length-append}
 use Rattle.std.specs.List.{AllByRecursion}
-use Rattle.std.proofs.lemmas.List.{at_drop_more, at_drop_all}
 use Rattle.std.proofs.ByRecursion.{All-map}
-use Rattle.std.proofs.lemmas.Bool.{cond-true, cond-false, leb-true, le-leb, lt-leb, le-ltb, ltb-true, lt-ltb, and_parts, and_from}
+use Rattle.std.proofs.lemmas.Bool.{cond-true, cond-false, leb-true, le-leb, lt-leb, ltb-true, lt-ltb, and_parts, and_from}
 use Rattle.terms.specs.declared.fault.Fault.{Fault}
 use Rattle.terms.specs.declared.fault.Refusal.TheVariants.{RowNotAbove, TreeTooLarge, WrongForm}
 use Rattle.terms.specs.Refusals.{fault}
@@ -17,8 +16,7 @@ use Rattle.lines.proofs.Fields.{ok_same, err_ok, err_same}
 use Rattle.lines.proofs.Laws.{Whole, then_ok}
 use Rattle.lines.proofs.Counts.{upto_sound, upto_complete, written_clear}
 use Rattle.lines.proofs.Commas.{list_sound, list_complete, commas_clear}
-use Rattle.tree_text.specs.declared.place.Place.{Place}
-use Rattle.tree_text.specs.Rows.{few, links, all_above, placed, list_of, links_text, GoodLinks}
+use Rattle.tree_text.specs.Rows.{Place, few, links, all_above, placed, list_of, links_text, GoodLinks}
 
 few_some : (o : Option (List ℕ)) (xs : List ℕ) → few o ≡ Some xs → (length xs ≤ option_limit) × (o ≡ Some xs)
 few_some None xs e = none_some e
@@ -96,13 +94,3 @@ begun_full xs f l ls h = go (f l) (all_of f ls)
 
 pub few_begun : (xs : List ℕ) (f : List ℕ → Option ℕ) → length xs ≤ option_limit → few (begun xs (all_of f [])) ≡ Some xs
 few_begun xs f h = ap (λ ys. few (Some ys)) (append-nil xs) ∙ cond-true (leb (length xs) option_limit) _ _ (le-leb (length xs) option_limit h)
-
--- the loop over the links
-pub above_more : (row : ℕ) (xs : List ℕ) (i : ℕ) → i < length xs → row < get_or xs i 0 → all_above row (drop i xs) ≡ all_above row (drop (i + 1) xs)
-above_more row xs i h k = at_drop_more (all_above row) xs i 0 h ∙ ap (λ t. t && all_above row (drop (i + 1) xs)) (lt-ltb row (get_or xs i 0) k)
-
-pub above_stops : (row : ℕ) (xs : List ℕ) (i : ℕ) → i < length xs → get_or xs i 0 ≤ row → all_above row (drop i xs) ≡ false
-above_stops row xs i h k = at_drop_more (all_above row) xs i 0 h ∙ ap (λ t. t && all_above row (drop (i + 1) xs)) (le-ltb row (get_or xs i 0) k)
-
-pub above_end : (row : ℕ) (xs : List ℕ) (i : ℕ) → length xs ≤ i → all_above row (drop i xs) ≡ true
-above_end row xs i h = at_drop_all (all_above row) xs i h

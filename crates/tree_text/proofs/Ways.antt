@@ -1,20 +1,17 @@
 -- The ways of a row, by its first line.
-use Rattle.std.proofs.Common.{◌≡◌, ℕ, List, ℤ, Ok, Err, Result, sym, refl, ap, ◌∙◌, arith, Bor}
+use Rattle.std.proofs.Common.{◌≡◌, ℕ, List, ℤ, Ok, Err, Result, refl, ap, ◌∙◌, arith}
 use Rattle.terms.specs.declared.fault.Fault.{Fault}
 use Rattle.terms.specs.declared.fault.Refusal.TheVariants.{WrongLine}
 use Rattle.terms.specs.Refusals.{fault}
 use Rattle.theory.specs.Limits.{score_limit}
 use Rattle.numbers.specs.Numbers.{judged, within}
 use Rattle.lines.specs.declared.key.Key.TheVariants as key
-use Rattle.lines.specs.declared.key.Line.{Line}
-use Rattle.lines.specs.declared.key.Line.TheVariants as lined
 use Rattle.lines.specs.Reading.{State, then}
-use Rattle.lines.specs.Lines.{Said, said, next, form, key_of, value_of}
+use Rattle.lines.specs.Lines.{Said, said, next, form}
 use Rattle.lines.proofs.Fields.{next_stops, other_key, same_key}
 use Rattle.lines.proofs.Laws.{entry_stops}
 use Rattle.lines.proofs.Turns.{next_is, next_other, either_first, either_second, either_same}
-use Rattle.tree_text.specs.declared.place.Place.{Place}
-use Rattle.tree_text.specs.Rows.{Row, leaf, fork, leaf_line, fork_lines, fork_from, row_lines, list_of, list_line, behind}
+use Rattle.tree_text.specs.Rows.{Place, Row, leaf, fork, leaf_line, fork_lines, fork_from, row_lines, list_of, list_line, behind}
 
 left_end : key.Left ≡ key.End → ⊥
 left_end e = let z : ◌≡◌ {A = ℕ} 0 1 = cc in omega arith
@@ -53,45 +50,3 @@ unfolding row_lines
 row_wrong last room p s q t e ne nl =
     ap (λ r. then r (λ q. then (list_line key.Right last room (behind p q.0) q.1) (λ w. Ok (fork q.0 w.0, w.1)))) (entry_stops key.Left (list_of last room p) s (fault WrongLine q.number) (other_key key.Left s q t e nl))
     ∙ either_second key.End leaf_line (fork_lines last room p) s (next_other key.End s q t e ne)
-
--- the same, of the line that the code holds
-pub line_leaf : (last room : ℕ) (p : Place) (s : State) (l : Line) (n : ℕ) (t : State) (v : Bor (List ℕ)) → Ok (said (key_of l) (value_of l) n, t) ≡ next s → l ≡ lined.End v → then {B = Row × State} (judged (within score_limit v.now) n) (λ z. Ok (leaf z, t)) ≡ row_lines last room p s
-line_leaf last room p s l n t v e q = row_leaf last room p s v.now n t (ap (λ x. Ok (said (key_of x) (value_of x) n, t)) (sym q) ∙ e)
-
-pub line_fork : (last room : ℕ) (p : Place) (s : State) (l : Line) (n : ℕ) (t : State) (v : Bor (List ℕ)) → Ok (said (key_of l) (value_of l) n, t) ≡ next s → l ≡ lined.Left v → fork_from last room p v.now n t ≡ row_lines last room p s
-line_fork last room p s l n t v e q = row_fork last room p s v.now n t (ap (λ x. Ok (said (key_of x) (value_of x) n, t)) (sym q) ∙ e)
-
--- a line of this key is the one with this case
-clash : {B : Type 0} → ◌≡◌ {A = ℕ} 0 1 → B
-clash z = absurd (omega arith)
-
-end_line : (l : Line) → key_of l ≡ key.End → (v : Bor (List ℕ)) × (l ≡ lined.End v)
-end_line (lined.End v) e = (v, refl)
-end_line (lined.Side v) e = clash (cc)
-end_line (lined.First v) e = clash (cc)
-end_line (lined.Parts v) e = clash (cc)
-end_line (lined.Rules v) e = clash (cc)
-end_line (lined.Rows v) e = clash (cc)
-end_line (lined.Left v) e = clash (cc)
-end_line (lined.Right v) e = clash (cc)
-end_line (lined.Points v) e = clash (cc)
-end_line (lined.Edges v) e = clash (cc)
-end_line (lined.Moves v) e = clash (cc)
-end_line (lined.Move v) e = clash (cc)
-
-left_line : (l : Line) → key_of l ≡ key.Left → (v : Bor (List ℕ)) × (l ≡ lined.Left v)
-left_line (lined.Left v) e = (v, refl)
-left_line (lined.Side v) e = clash (cc)
-left_line (lined.First v) e = clash (cc)
-left_line (lined.Parts v) e = clash (cc)
-left_line (lined.Rules v) e = clash (cc)
-left_line (lined.Rows v) e = clash (cc)
-left_line (lined.End v) e = clash (cc)
-left_line (lined.Right v) e = clash (cc)
-left_line (lined.Points v) e = clash (cc)
-left_line (lined.Edges v) e = clash (cc)
-left_line (lined.Moves v) e = clash (cc)
-left_line (lined.Move v) e = clash (cc)
-
-pub line_wrong : (last room : ℕ) (p : Place) (s : State) (l : Line) (n : ℕ) (t : State) → Ok (said (key_of l) (value_of l) n, t) ≡ next s → ((v : Bor (List ℕ)) → l ≡ lined.End v → ⊥) → ((v : Bor (List ℕ)) → l ≡ lined.Left v → ⊥) → Err (fault WrongLine n) ≡ row_lines last room p s
-line_wrong last room p s l n t e ne nl = row_wrong last room p s (said (key_of l) (value_of l) n) t e (λ q. let h = end_line l q in ne h.0 h.1) (λ q. let h = left_line l q in nl h.0 h.1)

@@ -1,6 +1,6 @@
 -- The rows of a tree as a job writes them.
-use Rattle.std.specs.Prelude.{ℕ, zero, suc, ◌+◌, ◌-◌, ◌<◌, ◌≤◌, Bool, true, cond, ◌&&◌, List, [], ◌∷◌, ◌++◌, map, length, ℤ, Some, None, Ok, Err, Option, Result, nat_le, nat_lt}
-use Rattle.std.specs.List.{flat_map, AllByRecursion}
+use Rattle.std.specs.Prelude.{ℕ, zero, suc, ◌+◌, ◌-◌, ◌<◌, ◌≤◌, Bool, cond, List, [], ◌++◌, map, length, ℤ, Some, None, Ok, Err, Option, Result, nat_le, nat_lt}
+use Rattle.std.specs.List.{flat_map, list_all, AllByRecursion}
 use Rattle.terms.specs.declared.fault.Fault.{Fault}
 use Rattle.terms.specs.declared.fault.Refusal.TheVariants.{RowNotAbove, TreeTooLarge}
 use Rattle.terms.specs.Refusals.{fault}
@@ -12,13 +12,17 @@ use Rattle.lines.specs.declared.key.Key.{Key}
 use Rattle.lines.specs.declared.key.Key.TheVariants as key
 use Rattle.lines.specs.Reading.{Reading, then, done, ◌>>=◌, walk, Along}
 use Rattle.lines.specs.Lines.{entry, form, line, either}
-use Rattle.tree_text.specs.declared.place.Place.{Place}
 use Rattle.lines.specs.Commas.{pieces, commas, all_of}
 
 -- a row is ended, with its score, or has the rows of Left's options and of Right's
 pub data Row : Type 0 where
   leaf : ℤ → Row
   fork : List ℕ → List ℕ → Row
+
+-- where a row stands: its number, and how many picks the rows before it have
+pub record Place : Type 0 where
+  pub row : ℕ
+  pub used : ℕ
 
 -- no more than a side may have
 abbrev pub few : Option (List ℕ) → Option (List ℕ)
@@ -30,8 +34,7 @@ abbrev pub links : ℕ → List ℕ → Option (List ℕ)
 links last text = few (all_of (upto last) (pieces text))
 
 abbrev pub all_above : ℕ → List ℕ → Bool
-all_above row [] = true
-all_above row (x ∷ xs) = nat_lt row x && all_above row xs
+all_above row = list_all (nat_lt row)
 
 -- a row's list of options: first its form, then that each stands below the row, then that there is room for the picks
 abbrev pub roomy : ℕ → Place → List ℕ → ℕ → Result (List ℕ) Fault

@@ -2,11 +2,12 @@
 
 #![tactic(auto)]
 
+mod lent;
 mod links;
-mod list_line;
 mod place;
 mod row;
 mod row_lines;
 mod tree;
 
-pub use tree::{clear, read_tree};
+pub use lent::Lent;
+pub use tree::read_tree;

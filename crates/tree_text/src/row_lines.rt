@@ -1,63 +1,43 @@
-ghost use Rattle.std.specs.Prelude.{◌≡◌, ℕ, ◌+◌, ◌≤◌};
+ghost use Rattle.std.specs.Prelude.{◌≡◌, ℕ, ◌+◌, ◌≤◌, length, IfOk};
 ghost use Rattle.theory.specs.Limits.{score_limit};
 ghost use Rattle.numbers.specs.Numbers.{judged, within};
 ghost use Rattle.lines.specs.Seen.{seen};
-ghost use Rattle.tree_text.specs.Rows.{row_lines, fork_from};
-ghost use Rattle.tree_text.specs.Seen.{gave_row, RowFits};
+ghost use Rattle.tree_text.specs.Rows.{row_lines, fork_from, picked};
+ghost use Rattle.tree_text.specs.Seen.{spot, as_row, gave_row};
 
-use crate::list_line::{list_of, read_list};
 use crate::place::Place;
 use crate::row::Row;
 use lines::{Key, Line, Reader};
-use numbers::read_within;
+use numbers::Text;
 use terms::{Fault, Refusal};
 use theory::SCORE_LIMIT;
 
-fn score_of(value: &[u8], line: u32) -> Result<i16, Fault>
-    ensures { result ≡ judged (within score_limit value.now) line }
+// The score of an ended row.
+fn score_of(text: Text) -> Result<i16, Fault>
+    ensures { result ≡ judged (within score_limit text.entry.bytes.now) text.entry.line }
 {
-    let score = read_within(value, SCORE_LIMIT as u16, line)?;
+    let score = text.within(SCORE_LIMIT as u16)?;
     Ok(score as i16)
 }
 
 // An open row, of which the line left= has been read.
-fn fork_of(
-    reader: &mut Reader,
-    value: &[u8],
-    line: u32,
-    last: u8,
-    room: usize,
-    place: Place,
-) -> Result<Row, Fault>
-    requires { (room ≤ 1024) × (place.used ≤ room) }
-    ensures row { gave_row result reader.new ≡ fork_from last room place value.now line (seen reader.old) }
-    ensures room { RowFits room place result }
+fn fork_of(reader: &mut Reader, text: Text, place: Place) -> Result<Row, Fault>
+    ensures row { gave_row result reader.new ≡ fork_from place.last place.room (spot place) text.entry.bytes.now text.entry.line (seen reader.old) }
+    ensures room { IfOk result (λ row. place.used + length (picked (as_row row)) ≤ place.room) }
 {
-    let left = list_of(value, line, last, room, place)?;
-    let behind = Place {
-        row: place.row,
-        used: place.used + left.used,
-    };
-    let right = read_list(reader, Key::Right, last, room, behind)?;
+    let left = place.list_of(text)?;
+    let right = place.behind(&left).read_list(reader, Key::Right)?;
     Ok(Row::Open(left, right))
 }
 
 // The line or the two lines of a row.
-pub fn read_row(reader: &mut Reader, last: u8, room: usize, place: Place) -> Result<Row, Fault>
-    requires { (room ≤ 1024) × (place.used ≤ room) }
-    ensures row { gave_row result reader.new ≡ row_lines last room place (seen reader.old) }
-    ensures room { RowFits room place result }
+pub fn read_row(reader: &mut Reader, place: Place) -> Result<Row, Fault>
+    ensures row { gave_row result reader.new ≡ row_lines place.last place.room (spot place) (seen reader.old) }
+    ensures room { IfOk result (λ row. place.used + length (picked (as_row row)) ≤ place.room) }
 {
-    let (line, number) = reader.next_line()?;
-    match line {
-        Line::End(value) => {
-            let score = score_of(value, number)?;
-            Ok(Row::Ended(score))
-        }
-        Line::Left(value) => fork_of(reader, value, number, last, room, place),
-        _ => Err(Fault {
-            refusal: Refusal::WrongLine,
-            line: number,
-        }),
+    match reader.next_line()? {
+        Line::End(text) => Ok(Row::Ended(score_of(text)?)),
+        Line::Left(text) => fork_of(reader, text, place),
+        line => Err(Refusal::WrongLine.at(line.value().line)),
     }
 }

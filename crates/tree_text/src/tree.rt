@@ -1,149 +1,78 @@
-ghost use Rattle.std.specs.Prelude.{◌≡◌, ℕ, ◌+◌, ◌-◌, ◌<◌, ◌≤◌, List, ◌++◌, length};
+ghost use Rattle.std.specs.Prelude.{◌≡◌, ◌<◌, ◌≤◌, length};
 ghost use Rattle.lines.specs.Seen.{seen, gave};
 ghost use Rattle.lines.specs.Lines.{entry};
-ghost use Rattle.trees.specs.Written.{blank as blank_row};
-ghost use Rattle.tree_text.specs.Rows.{row_count, picked};
-ghost use Rattle.tree_text.specs.Written.{row_at, Content, Blank, ReadRows, ReadPart, ReadTree};
-ghost use Rattle.tree_text.specs.Seen.{listed, as_row, picks_in};
+ghost use Rattle.tree_text.specs.Rows.{row_count};
+ghost use Rattle.tree_text.specs.Seen.{Kept};
+ghost use Rattle.tree_text.specs.Written.{Blank, ReadRows, ReadPart, ReadTree};
 
-use crate::links::Links;
+use crate::lent::Lent;
 use crate::place::Place;
-use crate::row::Row;
 use crate::row_lines::read_row;
 use lines::{Key, Reader};
-use numbers::read_upto;
 use terms::{Fault, Refusal};
-use trees::{BLANK_ROW, EMPTY_RUN, PICK_LIMIT, PickRun, TreeRow};
-
-// The most rows that a tree part has.
-const MOST_ROWS: u16 = 256;
+use trees::{PICK_LIMIT, ROW_LIMIT, TreeRow};
 
 // The line rows=, which says how many rows follow: no more than are lent.
 fn count_rows(reader: &mut Reader, lent: usize) -> Result<usize, Fault>
     ensures { gave result reader.new ≡ entry Key.Rows (row_count lent) (seen reader.old) }
 {
-    let (value, line) = reader.value(Key::Rows)?;
-    let n = read_upto(value, MOST_ROWS, line)?;
+    let text = reader.value(Key::Rows)?;
+    let n = usize::from(text.upto(ROW_LIMIT as u16)?);
     if n == 0 {
-        return Err(Fault {
-            refusal: Refusal::WrongForm,
-            line,
-        });
+        return Err(text.wrong());
     }
-    if n as usize > lent {
-        return Err(Fault {
-            refusal: Refusal::TreeTooLarge,
-            line,
-        });
+    if n > lent {
+        return Err(Refusal::TreeTooLarge.at(text.line));
     }
-    Ok(n as usize)
+    Ok(n)
 }
 
-// Copies row numbers behind the `at` picks that stand there.
-fn copy(links: &Links, picks: &mut [u8], at: usize)
-    requires { at + links.now.used ≤ length picks.old }
-    ensures { (ys : List ℕ) → length ys ≡ at → Content 0 picks.old ys → Content 0 picks.new (ys ++ listed links.now) }
-{
-    for i in 0..links.used {
-        picks[at + i] = links.list[i];
-    }
-}
-
-impl Row {
-    // How many picks it has.
-    fn picks(self) -> usize
-        ensures count { result ≡ picks_in self }
-        ensures long { length (picked (as_row self)) ≡ result }
-    {
-        match self {
-            Row::Ended(_) => 0,
-            Row::Open(left, right) => left.used + right.used,
-        }
-    }
-}
-
-// Writes the picks of a row behind the `used` ones, and answers the row as it is written down.
-fn store(row: Row, picks: &mut [u8], used: usize) -> TreeRow
-    requires { (used + picks_in row ≤ length picks.old) × (used + picks_in row ≤ 1024) }
-    ensures row { result ≡ row_at used (as_row row) }
-    ensures picks { (ys : List ℕ) → length ys ≡ used → Content 0 picks.old ys → Content 0 picks.new (ys ++ picked (as_row row)) }
-{
-    match row {
-        Row::Ended(score) => TreeRow {
-            score,
-            left: EMPTY_RUN,
-            right: EMPTY_RUN,
-        },
-        Row::Open(left, right) => {
-            copy(&left, picks, used);
-            copy(&right, picks, used + left.used);
-            TreeRow {
-                score: 0,
-                left: PickRun {
-                    begin: used as u16,
-                    count: left.used as u8,
-                },
-                right: PickRun {
-                    begin: (used + left.used) as u16,
-                    count: right.used as u8,
-                },
-            }
-        }
-    }
-}
-
-// Reads `n` rows into blank buffers, as many picks as there is room for.
-fn read_rows(
-    reader: &mut Reader,
-    n: usize,
-    room: usize,
-    rows: &mut [TreeRow],
-    picks: &mut [u8],
-) -> Result<(), Fault>
-    requires some { (0 < n) × ((n ≤ 256) × (n ≤ length rows.old)) }
-    requires room { (room ≤ 1024) × (room ≤ length picks.old) }
+// Reads as many rows as there are into blank buffers, with as many picks as there is room for.
+// They are blank only between clearing and reading, so no type holds it.
+fn read_rows(reader: &mut Reader, rows: &mut [TreeRow], picks: &mut [u8]) -> Result<(), Fault>
+    requires rows { (0 < length rows.old) × (length rows.old ≤ 256) }
+    requires room { length picks.old ≤ 1024 }
     requires blank { Blank rows.old picks.old }
-    ensures { ReadRows n room (seen reader.old) result (seen reader.new) rows.new picks.new }
+    ensures { ReadRows (length rows.old) (length picks.old) (seen reader.old) result (seen reader.new) rows.new picks.new }
 {
-    let last = (n - 1) as u8;
+    let last = (rows.len() - 1) as u8;
+    let room = picks.len();
     let mut used = 0;
-    for i in 0..n {
-        let row = read_row(reader, last, room, Place { row: i as u8, used })?;
-        rows[i] = store(row, picks, used);
+    for (i, cell) in rows.iter_mut().enumerate() {
+        let place = Place {
+            row: i as u8,
+            last,
+            used,
+            room,
+        };
+        let row = read_row(reader, place)?;
+        *cell = row.store(picks, used);
         used += row.picks();
     }
     Ok(())
 }
 
-// Makes both buffers blank.
-pub fn clear(rows: &mut [TreeRow], picks: &mut [u8])
-    ensures { Blank rows.new picks.new }
-{
-    rows.fill(BLANK_ROW);
-    picks.fill(0);
-}
-
 // Reads the rows of a tree part into blank buffers.
-fn read_part(reader: &mut Reader, rows: &mut [TreeRow], picks: &mut [u8]) -> Result<(), Fault>
-    requires { Blank rows.old picks.old }
-    ensures { ReadPart (seen reader.old) result (seen reader.new) rows.new picks.new }
+fn read_part(reader: &mut Reader, lent: &mut Lent) -> Result<(), Fault>
+    requires { Blank lent.old.rows.now lent.old.picks.now }
+    ensures read { ReadPart (seen reader.old) result (seen reader.new) lent.new.rows.now lent.new.picks.now }
+    ensures kept { Kept lent.old lent.new }
 {
-    let n = count_rows(reader, rows.len())?;
-    let room = picks.len().min(PICK_LIMIT);
-    read_rows(reader, n, room, rows, picks)
+    let n = count_rows(reader, lent.rows.len())?;
+    let room = lent.picks.len().min(PICK_LIMIT);
+    read_rows(reader, &mut lent.rows[..n], &mut lent.picks[..room])
 }
 
-// Reads the lines of a tree part, after its line rules=, into the buffers, of which nothing stays.
-// Where it refuses both are blank.
-pub fn read_tree(reader: &mut Reader, rows: &mut [TreeRow], picks: &mut [u8]) -> Result<(), Fault>
-    ensures { ReadTree (seen reader.old) result (seen reader.new) rows.new picks.new }
+// Reads the lines of a tree part, after its line rules=, into what is lent, of which nothing stays.
+// Where it refuses both buffers are blank.
+pub fn read_tree(reader: &mut Reader, lent: &mut Lent) -> Result<(), Fault>
+    ensures read { ReadTree (seen reader.old) result (seen reader.new) lent.new.rows.now lent.new.picks.now }
+    ensures kept { Kept lent.old lent.new }
 {
-    clear(rows, picks);
-    match read_part(reader, rows, picks) {
-        Ok(()) => Ok(()),
-        Err(fault) => {
-            clear(rows, picks);
-            Err(fault)
-        }
+    lent.clear();
+    let answer = read_part(reader, lent);
+    if answer.is_err() {
+        lent.clear();
     }
+    answer
 }

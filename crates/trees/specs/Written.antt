@@ -1,5 +1,6 @@
 -- The tree that a row of two buffers, rows and picks, says. Every content of the buffers says some tree.
-use Rattle.std.specs.Prelude.{◌≡◌, ℕ, zero, suc, ◌+◌, ◌<◌, ◌≤◌, Bool, true, false, cond, ◌&&◌, List, [], ◌∷◌, map, length, take, drop, replicate, ℤ, pos, neg_ℤ, Some, None, Option, int_le, nat_le, nat_lt, slice_index_or}
+use Rattle.std.specs.Prelude.{◌≡◌, ℕ, zero, suc, ◌+◌, ◌<◌, ◌≤◌, Bool, true, false, cond, ◌&&◌, List, map, length, take, drop, replicate, ℤ, pos, neg_ℤ, Some, None, Option, int_le, nat_le, nat_lt, slice_index_or}
+use Rattle.std.specs.List.{list_all}
 use Rattle.terms.specs.declared.side.Side.{Side}
 use Rattle.terms.specs.declared.side.Side.TheVariants.{Left, Right}
 use Rattle.terms.specs.Sides.{pick}
@@ -36,8 +37,7 @@ named picks l = take l.count (drop l.begin picks)
 
 -- each is a row above the own one and below the end
 abbrev pub all_above : ℕ → ℕ → List ℕ → Bool
-all_above own end [] = true
-all_above own end (k ∷ ks) = (nat_lt own k && nat_lt k end) && all_above own end ks
+all_above own end = list_all (λ k. nat_lt own k && nat_lt k end)
 
 -- a list is lawful at a row where its length is, and it lies within the picks and names only rows above
 abbrev pub lawful_list : ℕ → List ℕ → ℕ → PickRun → Bool
@@ -53,9 +53,11 @@ abbrev pub row_at : List TreeRow → ℕ → TreeRow
 row_at rows i = slice_index_or rows i blank
 
 -- a row is open where both its lists are lawful
+abbrev pub open_lists : ℕ → List ℕ → ℕ → TreeRow → Bool
+open_lists end picks own row = lawful_list end picks own row.left && lawful_list end picks own row.right
+
 abbrev pub open_row : List TreeRow → List ℕ → ℕ → Bool
-open_row rows picks i =
-    lawful_list (length rows) picks i (row_at rows i).left && lawful_list (length rows) picks i (row_at rows i).right
+open_row rows picks i = open_lists (length rows) picks i (row_at rows i)
 
 -- the list of the side's options: empty where the row is not open
 abbrev pub list_at : List TreeRow → List ℕ → ℕ → Side → PickRun

@@ -1,13 +1,13 @@
 -- The trees of rows: what they are, that no others agree with the rows, and what the four questions answer of them.
-use Rattle.std.specs.Prelude.{◌≡◌, ℕ, zero, suc, ◌+◌, ◌-◌, ◌<◌, ◌≤◌, Bool, true, false, cond, ◌&&◌, ◌⊎◌, List, [], ◌∷◌, map, length, get_or, take, drop, ℤ, Some, None, Option, ◌≢◌, nat_le, nat_lt, slice_index, slice_index_or}
+use Rattle.std.specs.Prelude.{◌≡◌, ℕ, zero, suc, ◌+◌, ◌<◌, ◌≤◌, Bool, true, false, cond, ◌&&◌, ◌⊎◌, List, [], ◌∷◌, map, length, take, drop, ℤ, Some, None, Option, nat_le, nat_lt, slice_index, slice_index_or}
 use Rattle.std.proofs.Math.Path.{refl, ap, ap₂, sym}
 use Rattle.std.proofs.Common.{◌∙◌, inl, inr}
 use native.Mathlib.Omega.{arith}
 use Rattle.std.specs.List.{AllByRecursion}
-use Rattle.std.proofs.lemmas.List.{length-map, length-take, length-take-le, length-drop, get_or_past, get_or-take, get_or-drop, at_drop_more, take-take, drop-take}
+use Rattle.std.proofs.lemmas.List.{length-map, length-take, length-take-le, length-drop, get_or_past, get_or-take}
 use Rattle.std.proofs.ByRecursion.{All-get_or}
 use Rattle.std.proofs.lemmas.Int.{ints}
-use Rattle.std.proofs.lemmas.Bool.{true≢false, and_parts, leb-true, ltb-true, lt-ltb, le-ltb, le-leb, cases_lt, cases_Bool}
+use Rattle.std.proofs.lemmas.Bool.{and_parts, leb-true, ltb-true, lt-ltb, le-ltb, cases_lt, cases_Bool}
 use Rattle.terms.specs.declared.side.Side.{Side}
 use Rattle.terms.specs.declared.side.Side.TheVariants.{Left, Right}
 use Rattle.terms.specs.Sides.{pick}
@@ -31,19 +31,6 @@ all_above_all own end (k ∷ ks) h =
     let p = and_parts (nat_lt own k && nat_lt k end) (all_above own end ks) h in
     let q = and_parts (nat_lt own k) (nat_lt k end) p.0 in
     ((ltb-true own k q.0, ltb-true k end q.1), all_above_all own end ks p.1)
-
--- a step of the loop that looks at the picks in turn
-pub above_more : (own end : ℕ) (ks : List ℕ) (i : ℕ) → i < length ks → own < slice_index ks i → slice_index ks i < end → all_above own end (drop (i + 1) ks) ≡ all_above own end (drop i ks)
-above_more own end ks i h a b =
-    let p = lt-ltb own (slice_index ks i) a in
-    let q = lt-ltb (slice_index ks i) end b in
-    sym (at_drop_more (all_above own end) ks i 0 h ∙ ap₂ (λ x y. (x && y) && all_above own end (drop (i + 1) ks)) p q)
-
-pub above_stop : (own end : ℕ) (ks : List ℕ) (i : ℕ) → i < length ks → (slice_index ks i ≤ own) ⊎ ((own < slice_index ks i) × (end ≤ slice_index ks i)) → all_above own end (drop i ks) ≡ false
-above_stop own end ks i h (inl a) =
-    at_drop_more (all_above own end) ks i 0 h ∙ ap (λ x. (x && nat_lt (slice_index ks i) end) && all_above own end (drop (i + 1) ks)) (le-ltb own (slice_index ks i) a)
-above_stop own end ks i h (inr a) =
-    at_drop_more (all_above own end) ks i 0 h ∙ ap₂ (λ x y. (x && y) && all_above own end (drop (i + 1) ks)) (lt-ltb own (slice_index ks i) a.0) (le-ltb (slice_index ks i) end a.1)
 
 pub record Sound (end : ℕ) (picks : List ℕ) (own : ℕ) (l : PickRun) : Type 0 where
   pub some : 1 ≤ l.count
@@ -112,13 +99,6 @@ module _ (rows : List TreeRow) (picks : List ℕ) where
 
   pub count_few : (i : ℕ) (s : Side) → (list_at rows picks i s).count ≤ option_limit
   count_few i s = count_few_by i s (cases_Bool (open_row rows picks i))
-
-  list_within_by : (i : ℕ) (s : Side) → (open_row rows picks i ≡ true) ⊎ (open_row rows picks i ≡ false) → (list_at rows picks i s).begin + (list_at rows picks i s).count ≤ length picks
-  list_within_by i s (inl e) = (list_open i s e).within
-  list_within_by i s (inr e) = rw (list_ended i s e) (omega arith)
-
-  pub list_within : (i : ℕ) (s : Side) → (list_at rows picks i s).begin + (list_at rows picks i s).count ≤ length picks
-  list_within i s = list_within_by i s (cases_Bool (open_row rows picks i))
 
   pub some_options : (i : ℕ) (s : Side) → open_row rows picks i ≡ true → 0 < length (options_at rows picks i s)
   some_options i s e = let f = (list_open i s e).some in omega (arith, length_options i s)
@@ -248,48 +228,8 @@ module _ (rows : List TreeRow) (picks : List ℕ) where
   as_written = (says counted lent, λ other agrees. only counted lent other agrees)
 
   -- what the code reads of the buffers
-  pub lent_part : (l : PickRun) → l.begin + l.count ≤ length lent → take ((l.begin + l.count) - l.begin) (drop l.begin picks) ≡ named lent l
-  lent_part l h =
-      let low : l.begin + l.count ≤ pick_limit = omega (arith, length-take pick_limit picks) in
-      let n : (l.begin + l.count) - l.begin ≡ l.count = omega arith in
-      ap (λ k. take k (drop l.begin picks)) n ∙ sym (drop-take l.begin l.count picks) ∙ ap (drop l.begin) (sym (take-take (l.begin + l.count) pick_limit picks low)) ∙ drop-take l.begin l.count lent
-
-  pub lent_within : (l : PickRun) → l.begin + l.count ≤ length lent → l.begin + l.count ≤ length picks
-  lent_within l h = omega (arith, length-take pick_limit picks)
-
-  pub lawful_part : (end own : ℕ) (l : PickRun) (r : Bool) → (l.count ≢ 0) → l.count ≤ option_limit → l.begin + l.count ≤ length lent → r ≡ all_above own end (take ((l.begin + l.count) - l.begin) (drop l.begin picks)) → r ≡ lawful_list end lent own l
-  lawful_part end own l r some few within e =
-      let a = le-leb 1 l.count (omega (arith, some)) in
-      let b = le-leb l.count option_limit few in
-      let d = le-leb (l.begin + l.count) (length lent) within in
-      e ∙ ap (all_above own end) (lent_part l within) ∙ sym (ap₂ (λ x y. (x && nat_le l.count option_limit) && (y && all_above own end (named lent l))) a d ∙ ap (λ x. (true && x) && (true && all_above own end (named lent l))) b)
-
   pub row_read : (i : ℕ) → i < length counted → row_at counted i ≡ slice_index_or rows i blank
   row_read i h = get_or-take row_limit rows i blank (omega (arith, length-take row_limit rows))
-
-  pub row_within : (i : ℕ) → i < length counted → i < length rows
-  row_within i h = omega (arith, length-take row_limit rows)
-
-  open_read : (i : ℕ) → i < length counted → open_row counted lent i ≡ (lawful_list (length counted) lent i (get_or rows i blank).left && lawful_list (length counted) lent i (get_or rows i blank).right)
-  open_read i h = ap (λ (x : TreeRow). lawful_list (length counted) lent i x.left && lawful_list (length counted) lent i x.right) (row_read i h)
-
-  pub open_then : (i : ℕ) (r : Bool) → i < length counted → true ≡ lawful_list (length counted) lent i (get_or rows i blank).left → r ≡ lawful_list (length counted) lent i (get_or rows i blank).right → r ≡ open_row counted lent i
-  open_then i r h e q = q ∙ ap (λ b. b && lawful_list (length counted) lent i (get_or rows i blank).right) e ∙ sym (open_read i h)
-
-  pub open_else : (i : ℕ) → i < length counted → false ≡ lawful_list (length counted) lent i (get_or rows i blank).left → false ≡ open_row counted lent i
-  open_else i h e = ap (λ b. b && lawful_list (length counted) lent i (get_or rows i blank).right) e ∙ sym (open_read i h)
-
-  -- an open row is one of those that count
-  pub open_counted : (i : ℕ) → true ≡ open_row counted lent i → i < length counted
-  open_counted i e = open_counted_by i e (cases_lt i (length counted))
-    where
-      open_counted_by : (i : ℕ) → true ≡ open_row counted lent i → (i < length counted) ⊎ (length counted ≤ i) → i < length counted
-      open_counted_by i e (inl h) = h
-      open_counted_by i e (inr h) = absurd (true≢false (e ∙ past_ended counted lent i h))
-
-  pub list_read : (i : ℕ) (s : Side) → true ≡ open_row counted lent i → pick s (get_or rows i blank).left (get_or rows i blank).right ≡ list_at counted lent i s
-  list_read i s e =
-      ap (λ (x : TreeRow). pick s x.left x.right) (sym (row_read i (open_counted i e))) ∙ ap (λ b. cond b (pick s (row_at counted i).left (row_at counted i).right) empty) e
 
   answers_by : (i : ℕ) (s : Side) → (i < length counted) ⊎ (length counted ≤ i) → (open_row counted lent i ≡ true) ⊎ (open_row counted lent i ≡ false) → options_in (tree_of_row counted lent i) s ≡ map (tree_within (length counted) counted lent) (options_at counted lent i s)
   answers_by i s (inr h) b = rw (tree_unknown counted lent i h, options_ended counted lent i s (past_ended counted lent i h)) refl
@@ -312,45 +252,25 @@ module _ (rows : List TreeRow) (picks : List ℕ) where
   unfolding tree_at
   answer_open_score i h e = rw (tree_known counted lent i h) (sym (row_no_score counted lent i h e))
 
-  answer_score_at : (i : ℕ) → i < length counted → open_row counted lent i ≡ false → Some (score_or_zero (row_at counted i).score) ≡ score_in (tree_at rows picks i)
+  pub answer_score : (i : ℕ) → i < length counted → open_row counted lent i ≡ false → Some (score_or_zero (row_at counted i).score) ≡ score_in (tree_at rows picks i)
   unfolding tree_at
-  answer_score_at i h e = rw (tree_known counted lent i h, row_ended counted lent i h e) refl
+  answer_score i h e = rw (tree_known counted lent i h, row_ended counted lent i h e) refl
 
-  pub answer_score : (i : ℕ) → i < length counted → open_row counted lent i ≡ false → Some (score_or_zero (get_or rows i blank).score) ≡ score_in (tree_at rows picks i)
-  answer_score i h e = ap (λ (x : TreeRow). Some (score_or_zero x.score)) (sym (row_read i h)) ∙ answer_score_at i h e
+  pub answer_count : (i : ℕ) (s : Side) → length (options_at counted lent i s) ≡ length (options_in (tree_at rows picks i) s)
+  answer_count i s = sym (ap length (answer_options i s) ∙ length-map (options_at counted lent i s) (tree_within (length counted) counted lent))
 
-  pub answer_count : (i : ℕ) (s : Side) → (list_at counted lent i s).count ≡ length (options_in (tree_at rows picks i) s)
-  answer_count i s =
-      sym (ap length (answer_options i s) ∙ length-map (options_at counted lent i s) (tree_within (length counted) counted lent) ∙ length_options counted lent i s)
-
-  pub answer_no_option : (i : ℕ) (s : Side) (k : ℕ) → (list_at counted lent i s).count ≤ k → at (options_in (tree_at rows picks i) s) k ≡ None
+  pub answer_no_option : (i : ℕ) (s : Side) (k : ℕ) → length (options_at counted lent i s) ≤ k → at (options_in (tree_at rows picks i) s) k ≡ None
   answer_no_option i s k h = at_past (options_in (tree_at rows picks i) s) k (omega (arith, answer_count i s))
 
-  answer_names : (i : ℕ) (s : Side) (k : ℕ) (o : ℕ) → k < length (options_at counted lent i s) → o ≡ slice_index (options_at counted lent i s) k → Names (tree_at rows picks) (at (options_in (tree_at rows picks i) s) k) (Some o)
+  pub answer_option : (i : ℕ) (s : Side) (k : ℕ) (o : ℕ) → k < length (options_at counted lent i s) → o ≡ slice_index (options_at counted lent i s) k → Names (tree_at rows picks) (at (options_in (tree_at rows picks i) s) k) (Some o)
   unfolding tree_at
-  answer_names i s k o h e =
+  answer_option i s k o h e =
       let a = All-get_or (Above i (length counted)) (options_at counted lent i s) k 0 h (options_above counted lent i s) in
       let below : o < length counted = omega arith in
       let whole = tree_within (length counted) counted lent in
       let p : at (options_in (tree_of_row counted lent i) s) k ≡ Some (whole o) =
       ap (λ l. at l k) (answer_options i s) ∙ at_map whole (options_at counted lent i s) k h ∙ ap (λ n. Some (whole n)) (sym e) in
       (tree_known counted lent o below ∙ sym p, ap known_in p)
-
-  -- a list lies within the picks
-  pub picked : (i : ℕ) (s : Side) (k : ℕ) → k < (list_at counted lent i s).count → (list_at counted lent i s).begin + k < length lent
-  picked i s k h = let w = list_within counted lent i s in omega arith
-
-  picked_low : (i : ℕ) (s : Side) (k : ℕ) → k < (list_at counted lent i s).count → (list_at counted lent i s).begin + k < pick_limit
-  picked_low i s k h = let p = picked i s k h in omega (arith, length-take pick_limit picks)
-
-  option_read : (i : ℕ) (s : Side) (k : ℕ) → k < (list_at counted lent i s).count → slice_index (options_at counted lent i s) k ≡ slice_index picks ((list_at counted lent i s).begin + k)
-  option_read i s k h =
-      let l = list_at counted lent i s in
-      get_or-take l.count (drop l.begin lent) k 0 h ∙ get_or-drop l.begin lent k 0 ∙ get_or-take pick_limit picks (l.begin + k) 0 (picked_low i s k h)
-
-  pub answer_option : (i : ℕ) (s : Side) (k : ℕ) → k < (list_at counted lent i s).count → Names (tree_at rows picks) (at (options_in (tree_at rows picks i) s) k) (Some (slice_index picks ((list_at counted lent i s).begin + k)))
-  answer_option i s k h =
-      answer_names i s k (slice_index picks ((list_at counted lent i s).begin + k)) (omega (arith, length_options counted lent i s)) (sym (option_read i s k h))
 
   pub lawful : (i : ℕ) → LawfulIn (tree_at rows picks i)
   unfolding tree_at

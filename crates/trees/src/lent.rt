@@ -1,8 +1,8 @@
 ghost use Rattle.std.specs.Prelude.{◌≡◌, length, take};
-ghost use Rattle.trees.specs.Written.{row_limit, pick_limit, all_above, lawful_list, open_row, list_at, score_or_zero, tree_at, TreesAsWritten};
+ghost use Rattle.trees.specs.Written.{row_limit, pick_limit, all_above, lawful_list, open_lists, options_at, score_or_zero, tree_at, TreesAsWritten};
 ghost use Rattle.trees.specs.WrittenLemmas as Written;
 
-use crate::row::{EMPTY_RUN, PICK_LIMIT, PickRun, ROW_LIMIT, TreeRow};
+use crate::row::{PICK_LIMIT, PickRun, ROW_LIMIT, TreeRow};
 use rules::RuleSet;
 use terms::Side;
 use theory::{OPTION_LIMIT, SCORE_LIMIT};
@@ -14,24 +14,28 @@ pub struct Trees<'a> {
     picks: &'a [u8],
 }
 
+// The first cells of a lent buffer, of which at most `limit` count.
+fn counted<T>(cells: &[T], limit: usize) -> &[T]
+    ensures { result.now ≡ take limit cells.now }
+{
+    &cells[..cells.len().min(limit)]
+}
+
 // Whether each pick names a row above the own one and below the end.
 fn all_above(own: usize, end: usize, picks: &[u8]) -> bool
     ensures { result ≡ all_above own end picks.now }
 {
-    for pick in picks {
+    picks.iter().all(|pick| {
         let row = *pick as usize;
-        if row <= own || row >= end {
-            return false;
-        }
-    }
-    true
+        own < row && row < end
+    })
 }
 
 // The score if it is lawful, and else 0.
 fn lawful_score(score: i16) -> i16
     ensures { result ≡ score_or_zero score }
 {
-    if score >= -SCORE_LIMIT && score <= SCORE_LIMIT {
+    if (-SCORE_LIMIT..=SCORE_LIMIT).contains(&score) {
         score
     } else {
         0
@@ -46,58 +50,49 @@ impl<'a> Trees<'a> {
         Trees { rows, picks }
     }
 
-    // How many rows count.
-    fn row_count(&self) -> usize
-        ensures { result ≡ length (take row_limit self.now.rows.now) }
+    // The rows that count.
+    fn rows(&self) -> &[TreeRow]
+        ensures { result.now ≡ take row_limit self.now.rows.now }
     {
-        self.rows.len().min(ROW_LIMIT)
+        counted(self.rows, ROW_LIMIT)
     }
 
-    // How many picks count.
-    fn pick_count(&self) -> usize
-        ensures { result ≡ length (take pick_limit self.now.picks.now) }
+    // The picks that count.
+    fn picks(&self) -> &[u8]
+        ensures { result.now ≡ take pick_limit self.now.picks.now }
     {
-        self.picks.len().min(PICK_LIMIT)
+        counted(self.picks, PICK_LIMIT)
     }
 
     // Whether the list is lawful at the row.
     fn is_lawful(&self, own: usize, list: PickRun) -> bool
         ensures { result ≡ lawful_list (length (take row_limit self.now.rows.now)) (take pick_limit self.now.picks.now) own list }
     {
-        if list.count == 0 || list.count > OPTION_LIMIT {
-            return false;
-        }
-        let begin = list.begin as usize;
-        let end = begin + list.count as usize;
-        if end > self.pick_count() {
-            return false;
-        }
-        all_above(own, self.row_count(), &self.picks[begin..end])
+        let end = self.rows().len();
+        (1..=OPTION_LIMIT).contains(&list.count)
+            && self
+                .picks()
+                .get(list.places())
+                .is_some_and(|picks| all_above(own, end, picks))
     }
 
-    // Whether the code is a row that is open.
-    fn is_open(&self, code: u32) -> bool
-        ensures { result ≡ open_row (take row_limit self.now.rows.now) (take pick_limit self.now.picks.now) code }
+    // Whether a row is open: both its lists are lawful.
+    fn is_open(&self, own: usize, row: &TreeRow) -> bool
+        ensures { result ≡ open_lists (length (take row_limit self.now.rows.now)) (take pick_limit self.now.picks.now) own row.now }
     {
-        let own = code as usize;
-        if own >= self.row_count() {
-            return false;
-        }
-        let row = self.rows[own];
         self.is_lawful(own, row.left) && self.is_lawful(own, row.right)
     }
 
-    // The list of a side's options; empty where the row is not open.
-    fn list(&self, code: u32, side: Side) -> PickRun
-        ensures { result ≡ list_at (take row_limit self.now.rows.now) (take pick_limit self.now.picks.now) code side }
+    // The rows of a side's options; none where the row is not open.
+    fn options(&self, code: u32, side: Side) -> &[u8]
+        ensures { result.now ≡ options_at (take row_limit self.now.rows.now) (take pick_limit self.now.picks.now) code side }
     {
-        if !self.is_open(code) {
-            return EMPTY_RUN;
-        }
-        let row = self.rows[code as usize];
-        match side {
-            Side::Left => row.left,
-            Side::Right => row.right,
+        let own = code as usize;
+        match self.rows().get(own) {
+            Some(row) if self.is_open(own, row) => {
+                &self.picks()[side.pick(row.left, row.right).places()]
+            }
+            _ => &[],
         }
     }
 }
@@ -108,30 +103,24 @@ impl<'a> RuleSet for Trees<'a> {
     ghost lawful = { λ s n. Written.lawful s.rows.now s.picks.now n };
 
     fn known(&self, code: u32) -> bool {
-        (code as usize) < self.row_count()
+        (code as usize) < self.rows().len()
     }
 
     fn score(&self, code: u32) -> Option<i16> {
-        let row = code as usize;
-        if row >= self.row_count() {
+        let own = code as usize;
+        let row = self.rows().get(own)?;
+        if self.is_open(own, row) {
             return None;
         }
-        if self.is_open(code) {
-            return None;
-        }
-        Some(lawful_score(self.rows[row].score))
+        Some(lawful_score(row.score))
     }
 
     fn count(&self, code: u32, side: Side) -> u8 {
-        self.list(code, side).count
+        self.options(code, side).len() as u8
     }
 
     fn option(&self, code: u32, side: Side, k: u8) -> Option<u32> {
-        let list = self.list(code, side);
-        if k >= list.count {
-            return None;
-        }
-        let place = list.begin as usize + k as usize;
-        Some(self.picks[place] as u32)
+        let row = self.options(code, side).get(k as usize)?;
+        Some(u32::from(*row))
     }
 }

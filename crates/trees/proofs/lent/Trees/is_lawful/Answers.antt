@@ -1,13 +1,12 @@
-use Rattle.std.proofs.Common.{◌+◌, ◌≤◌, length, take, arith, rules}
-use Rattle.trees.specs.Written.{row_limit}
-use Rattle.trees.specs.WrittenLemmas.{lawful_part, lent_within}
+use Rattle.std.proofs.Common.{◌≤◌, length, take, rules, tests}
+use Rattle.trees.specs.Written.{row_limit, pick_limit}
+use Rattle.trees.proofs.Lookups.{lawful_by}
 use Rattle.trees.proofs.lent.Trees.is_lawful.Goals as goal
 
-pub slice_bounds-all_above-end : goal.slice_bounds-all_above-end
-slice_bounds-all_above-end c =
-    let h : c.args.list.begin + c.args.list.count ≤ length c.args.self.now.picks.now = lent_within c.args.self.now.rows.now c.args.self.now.picks.now c.args.list (omega arith) in
-    search rules
-
-pub returns : goal.returns
-returns c =
-    lawful_part c.args.self.now.rows.now c.args.self.now.picks.now (length (take row_limit c.args.self.now.rows.now)) c.args.own c.args.list c.all_above.result (omega arith) (omega arith) (omega arith) (rw c.row_count.ensures at c.all_above.ensures)
+pub returns-then-contains : goal.returns-then-contains
+returns-then-contains c =
+    let rows = take row_limit c.args.self.now.rows.now in
+    let picks = take pick_limit c.args.self.now.picks.now in
+    let some : 1 ≤ c.args.list.count = search (rules, tests) in
+    let few : c.args.list.count ≤ 16 = search (rules, tests) in
+    lawful_by (length rows) c.args.own picks c.args.list c.is_some_and.result c.get.result _ c.places.result.start c.places.result.end some few c.places.ensures.start c.places.ensures.end (rw c.picks.ensures at c.get.ensures.lookup) c.is_some_and.ensures (λ x q. search rules)
