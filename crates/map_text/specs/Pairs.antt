@@ -9,25 +9,24 @@ use Rattle.map_text.specs.Maps.{Edge, ends, before_edge, rising}
 
 -- the edge that a pair of texts says
 abbrev pub said : Pair → Option Edge
-said p = ends (Some (p.from.now, p.to.now))
+said p = ends (Some (p.from.bytes.now, p.to.bytes.now))
 
 -- whether one pair stands before another, by their texts
 abbrev pub before_text : Pair → Pair → Bool
-before_text p q = less_text p.from.now q.from.now || (not (less_text q.from.now p.from.now) && less_text p.to.now q.to.now)
+before_text p q =
+    let a = p.from.bytes.now in
+    let b = q.from.bytes.now in
+    less_text a b || (not (less_text b a) && less_text p.to.bytes.now q.to.bytes.now)
 
 -- a pair was read, and says this edge; or there is no edge, and the form is wrong
 abbrev pub Paired : Result Pair Fault → Option Edge → ℕ → Type 0
-Paired (Ok p) o n = (e : Edge) × (o ≡ Some e) × (said p ≡ Some e)
+Paired (Ok p) o n = o ≡ said p
 Paired (Err d) o n = (o ≡ None) × (d ≡ fault WrongForm n)
 
--- the edge before, if there is one; a pair that was read says one
+-- the edge before, if there is one
 abbrev pub last_said : Option Pair → Option Edge
 last_said None = None
 last_said (Some p) = said p
-
-abbrev pub Says : Option Pair → Type 0
-Says None = Unit {0}
-Says (Some p) = (e : Edge) × (said p ≡ Some e)
 
 -- an edge that stands after the one before it, if there is one
 abbrev pub after_edge : Option Edge → Option Edge → Option Edge

@@ -1,7 +1,6 @@
 -- What the map of a rule set shows of a map that was read.
 use Rattle.std.specs.Prelude.{◌≡◌, ℕ, Bool, true, false, cond, ◌||◌, List, [], ◌∷◌, Ok, Err, Result}
 use Rattle.terms.specs.declared.fault.Fault.{Fault}
-use Rattle.terms.specs.declared.fault.Refusal.{Refusal}
 use Rattle.terms.specs.declared.fault.Refusal.TheVariants.{WrongEdge}
 use Rattle.terms.specs.Refusals.{fault}
 use Rattle.lines.specs.declared.reader.Reader.{Reader}
@@ -25,11 +24,6 @@ Shows s m = (points_on s ≡ m.points) × ((x y : ℕ) → joined_on s x y ≡ h
 abbrev pub ReadAs : Result Snort Fault → Reader → Result (Map × State) Fault → Type 0
 ReadAs (Ok s) t r = (m : Map) × (r ≡ Ok (m, seen t)) × Shows s m
 ReadAs (Err d) t r = r ≡ Err d
-
--- a refusal, with the line that met it
-abbrev pub on_line : {A : Type 0} → Result A Refusal → ℕ → Result A Fault
-on_line (Ok a) n = Ok a
-on_line (Err e) n = Err (fault e n)
 
 -- a map of so many points and no edges
 abbrev pub Blank : Result Snort Fault → Result ℕ Fault → Type 0

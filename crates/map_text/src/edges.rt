@@ -1,69 +1,57 @@
 ghost use Rattle.std.specs.Prelude.{◌≡◌, None};
 ghost use Rattle.lines.specs.Commas.{pieces, all_of};
 ghost use Rattle.map_text.specs.Maps.{edge_of};
-ghost use Rattle.map_text.specs.Pairs.{Paired, before_text, last_said, Says, after_edge, goes_on, formed};
+ghost use Rattle.map_text.specs.Pairs.{Paired, before_text, last_said, after_edge, goes_on, formed};
 
 use crate::pair::Pair;
-use lines::cut;
-use numbers::{is_less, read_natural};
-use terms::{Fault, Refusal};
+use lines::{Pieces, cut};
+use numbers::{Text, is_less};
+use terms::Fault;
 
-// The two numbers of an edge, the first not above the second.
-pub fn read_pair(text: &[u8], line: u32) -> Result<Pair<'_>, Fault>
-    ensures { Paired result (edge_of text.now) line }
-{
-    let Some((from, to)) = cut(text, b'-') else {
-        return Err(Fault {
-            refusal: Refusal::WrongForm,
-            line,
-        });
-    };
-    read_natural(from, line)?;
-    read_natural(to, line)?;
-    if is_less(to, from) {
-        return Err(Fault {
-            refusal: Refusal::WrongForm,
-            line,
-        });
+impl<'a> Pair<'a> {
+    // The two numbers of an edge, the first not above the second.
+    pub fn read(text: Text<'a>) -> Result<Pair<'a>, Fault>
+        ensures { Paired result (edge_of text.entry.bytes.now) text.entry.line }
+    {
+        let (from, to) = cut(text.bytes, b'-').ok_or(text.wrong())?;
+        let from = text.part(from);
+        let to = text.part(to);
+        from.natural()?;
+        to.natural()?;
+        if is_less(to.bytes, from.bytes) {
+            return Err(text.wrong());
+        }
+        Ok(Pair { from, to })
     }
-    Ok(Pair { from, to })
-}
 
-// Whether one edge stands before another: by the first point, and then by the second.
-fn is_before(a: Pair, b: Pair) -> bool
-    ensures { result ≡ before_text a.entry b.entry }
-{
-    is_less(a.from, b.from) || !is_less(b.from, a.from) && is_less(a.to, b.to)
+    // Whether it stands before another: by the first point, and then by the second.
+    // By `is_less`: texts of numbers compare by length first, and no derive gives that order.
+    fn is_before(self, other: Pair) -> bool
+        ensures { result ≡ before_text self.entry other.entry }
+    {
+        let (a, b) = (self.from.bytes, other.from.bytes);
+        is_less(a, b) || !is_less(b, a) && is_less(self.to.bytes, other.to.bytes)
+    }
 }
 
 // An edge that stands after the one before it, if there is one.
-fn read_next<'a>(last: Option<Pair<'a>>, text: &'a [u8], line: u32) -> Result<Pair<'a>, Fault>
-    requires { Says last }
-    ensures { Paired result (after_edge (last_said last.entry) (edge_of text.now)) line }
+fn read_next<'a>(last: Option<Pair<'a>>, text: Text<'a>) -> Result<Pair<'a>, Fault>
+    ensures { Paired result (after_edge (last_said last.entry) (edge_of text.entry.bytes.now)) text.entry.line }
 {
-    let pair = read_pair(text, line)?;
-    let Some(before) = last else {
-        return Ok(pair);
-    };
-    if !is_before(before, pair) {
-        return Err(Fault {
-            refusal: Refusal::WrongForm,
-            line,
-        });
+    let pair = Pair::read(text)?;
+    match last {
+        Some(before) if !before.is_before(pair) => Err(text.wrong()),
+        _ => Ok(pair),
     }
-    Ok(pair)
 }
 
 // Refuses a list of edges that has not its form.
-pub fn check_form(text: &[u8], line: u32) -> Result<(), Fault>
-    ensures { result ≡ formed (goes_on None (all_of edge_of (pieces text.now))) line }
+pub fn check_form(text: Text) -> Result<(), Fault>
+    ensures { result ≡ formed (goes_on None (all_of edge_of (pieces text.entry.bytes.now))) text.entry.line }
 {
     let mut last = None;
-    let mut rest = text;
-    while let Some((piece, more)) = cut(rest, b',') {
-        last = Some(read_next(last, piece, line)?);
-        rest = more;
+    for piece in Pieces::of(text) {
+        last = Some(read_next(last, piece)?);
     }
-    read_next(last, rest, line)?;
     Ok(())
 }

@@ -3,13 +3,10 @@ use lines::Reader;
 
 // The number and the line of what is refused, and 0 for a map that is taken.
 fn refused(job: &[u8]) -> (u8, u32) {
-    if job.len() > 100 {
-        return (10, 0);
-    }
-    match read_map(&mut Reader::new(job)) {
-        Ok(_) => (0, 0),
-        Err(fault) => (fault.refusal.number(), fault.line),
-    }
+    Reader::open(job)
+        .and_then(|mut reader| read_map(&mut reader))
+        .err()
+        .map_or((0, 0), |fault| (fault.refusal.number(), fault.line))
 }
 
 #[test]
