@@ -1,8 +1,6 @@
 -- The head and the moves of a job are read as they are written.
-use Rattle.std.proofs.Common.{◌≡◌, ℕ, ◌≤◌, Bool, true, false, cond, List, ◌∷◌, ◌++◌, Some, None, codes, Option, refl, ap, ◌∙◌, arith}
-use Rattle.std.specs.Str.{bytes_eq}
+use Rattle.std.proofs.Common.{◌≡◌, ℕ, ◌≤◌, List, [], ◌∷◌, ◌++◌, Some, None, Option, refl, ap, ◌∙◌, arith}
 use Rattle.std.proofs.ByRecursion.{All-append}
-use Rattle.std.proofs.lemmas.Slice.Eq.{bytes_eq-Decides}
 use Rattle.terms.specs.declared.side.Side.{Side}
 use Rattle.terms.specs.declared.side.Side.TheVariants.{Left, Right}
 use Rattle.terms.specs.declared.side.Mover.{Mover}
@@ -13,7 +11,7 @@ use Rattle.lines.specs.declared.key.Key.TheVariants as key
 use Rattle.lines.specs.Reading.{cut}
 use Rattle.lines.specs.Lines.{line, entry, form}
 use Rattle.lines.proofs.Splits.{Clear, some_same, cut_sound, cut_complete}
-use Rattle.lines.proofs.Laws.{Reads, entry_reads, form_whole, counted}
+use Rattle.lines.proofs.Laws.{Reads, entry_reads, form_whole, word_whole, counted}
 use Rattle.lines.proofs.Counts.{upto_sound, upto_complete, written_clear, count_reads}
 use Rattle.job.specs.declared.kind.Kind.{Kind}
 use Rattle.job.specs.declared.kind.Kind.TheVariants as kinds
@@ -25,61 +23,39 @@ use Rattle.job.specs.Reads.{side_line, first_line, move_line, moves_lines}
 abbrev pub Any : {A : Type 0} → A → Type 0
 Any a = Unit {0}
 
--- two words
-side_sound : (v : List ℕ) (s : Side) → side_of v ≡ Some s → Any s × (v ≡ side_text s)
-side_sound v s e = go (bytes_eq v (codes "left")) (bytes_eq v (codes "right")) refl refl e
-  where
-    go : (l r : Bool) → bytes_eq v (codes "left") ≡ l → bytes_eq v (codes "right") ≡ r → cond l (Some Left) (cond r (Some Right) None) ≡ Some s → Any s × (v ≡ side_text s)
-    go true r p q e = (tt, (bytes_eq-Decides v (codes "left")).0 p ∙ ap side_text (some_same e))
-    go false true p q e = (tt, (bytes_eq-Decides v (codes "right")).0 q ∙ ap side_text (some_same e))
-    go false false p q e = none_some e
+-- words
+side_named : (s : Side) → side_of (side_text s) ≡ Some s
+side_named Left = refl
+side_named Right = refl
 
-side_complete : (s : Side) → Any s → side_of (side_text s) ≡ Some s
-side_complete Left g = refl
-side_complete Right g = refl
-
-side_clear : (s : Side) → Any s → Clear 10 (side_text s)
-side_clear Left g = search arith
-side_clear Right g = search arith
+side_clear : (s : Side) → Clear 10 (side_text s)
+side_clear Left = search arith
+side_clear Right = search arith
 
 pub side_reads : Reads side_line (λ s. line key.Side (side_text s)) Any
-side_reads = entry_reads key.Side (form side_of) side_text Any (form_whole side_of side_text Any side_sound side_complete side_clear)
+side_reads = entry_reads key.Side (form side_of) side_text Any (word_whole side_text (Left ∷ Right ∷ []) side_named side_clear)
 
-first_sound : (v : List ℕ) (s : Mover) → first_of v ≡ Some s → Any s × (v ≡ first_text s)
-first_sound v s e = go (bytes_eq v (codes "ours")) (bytes_eq v (codes "theirs")) refl refl e
-  where
-    go : (l r : Bool) → bytes_eq v (codes "ours") ≡ l → bytes_eq v (codes "theirs") ≡ r → cond l (Some Ours) (cond r (Some Theirs) None) ≡ Some s → Any s × (v ≡ first_text s)
-    go true r p q e = (tt, (bytes_eq-Decides v (codes "ours")).0 p ∙ ap first_text (some_same e))
-    go false true p q e = (tt, (bytes_eq-Decides v (codes "theirs")).0 q ∙ ap first_text (some_same e))
-    go false false p q e = none_some e
+first_named : (s : Mover) → first_of (first_text s) ≡ Some s
+first_named Ours = refl
+first_named Theirs = refl
 
-first_complete : (s : Mover) → Any s → first_of (first_text s) ≡ Some s
-first_complete Ours g = refl
-first_complete Theirs g = refl
-
-first_clear : (s : Mover) → Any s → Clear 10 (first_text s)
-first_clear Ours g = search arith
-first_clear Theirs g = search arith
+first_clear : (s : Mover) → Clear 10 (first_text s)
+first_clear Ours = search arith
+first_clear Theirs = search arith
 
 pub first_reads : Reads first_line (λ s. line key.First (first_text s)) Any
-first_reads = entry_reads key.First (form first_of) first_text Any (form_whole first_of first_text Any first_sound first_complete first_clear)
+first_reads = entry_reads key.First (form first_of) first_text Any (word_whole first_text (Ours ∷ Theirs ∷ []) first_named first_clear)
 
--- two kinds of parts
-pub kind_sound : (v : List ℕ) (k : Kind) → kind_of v ≡ Some k → Any k × (v ≡ kind_text k)
-kind_sound v k e = go (bytes_eq v (codes "tree")) (bytes_eq v (codes "snort")) refl refl e
-  where
-    go : (l r : Bool) → bytes_eq v (codes "tree") ≡ l → bytes_eq v (codes "snort") ≡ r → cond l (Some kinds.Tree) (cond r (Some kinds.Snort) None) ≡ Some k → Any k × (v ≡ kind_text k)
-    go true r p q e = (tt, (bytes_eq-Decides v (codes "tree")).0 p ∙ ap kind_text (some_same e))
-    go false true p q e = (tt, (bytes_eq-Decides v (codes "snort")).0 q ∙ ap kind_text (some_same e))
-    go false false p q e = none_some e
+kind_named : (k : Kind) → kind_of (kind_text k) ≡ Some k
+kind_named kinds.Tree = refl
+kind_named kinds.Snort = refl
 
-pub kind_complete : (k : Kind) → Any k → kind_of (kind_text k) ≡ Some k
-kind_complete kinds.Tree g = refl
-kind_complete kinds.Snort g = refl
+kind_clear : (k : Kind) → Clear 10 (kind_text k)
+kind_clear kinds.Tree = search arith
+kind_clear kinds.Snort = search arith
 
-pub kind_clear : (k : Kind) → Any k → Clear 10 (kind_text k)
-kind_clear kinds.Tree g = search arith
-kind_clear kinds.Snort g = search arith
+pub kind_reads : Reads (entry key.Rules (form kind_of)) (λ k. line key.Rules (kind_text k)) Any
+kind_reads = entry_reads key.Rules (form kind_of) kind_text Any (word_whole kind_text (kinds.Tree ∷ kinds.Snort ∷ []) kind_named kind_clear)
 
 -- a move
 both_some : (o q : Option ℕ) (m : Move) → both_of o q ≡ Some m → (o ≡ Some m.part) × (q ≡ Some m.option)

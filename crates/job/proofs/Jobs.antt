@@ -8,7 +8,7 @@ use Rattle.lines.specs.declared.key.Key.TheVariants as key
 use Rattle.lines.specs.Reading.{State, at, then, longest}
 use Rattle.lines.specs.Lines.{line, entry, form}
 use Rattle.lines.proofs.Fields.{ok_same, err_ok}
-use Rattle.lines.proofs.Laws.{Reads, then_ok, then_run, entry_reads, form_whole, map_reads, seq_reads, done_reads, reads_as, counted}
+use Rattle.lines.proofs.Laws.{Reads, then_ok, then_run, map_reads, seq_reads, done_reads, reads_as, counted}
 use Rattle.lines.proofs.Counts.{count_reads}
 use Rattle.tree_text.specs.Rows.{Row, tree_lines, tree_text, GoodTree}
 use Rattle.tree_text.proofs.Exact.{tree_reads}
@@ -16,11 +16,11 @@ use Rattle.map_text.specs.Maps.{Map, read_map, map_text, GoodMap}
 use Rattle.map_text.proofs.Maps.{map_reads as map-law}
 use Rattle.job.specs.declared.kind.Kind.{Kind}
 use Rattle.job.specs.declared.kind.Kind.TheVariants as kinds
-use Rattle.job.specs.Grammar.{Part, tree, snort, kind, kind_text, body_text, part_text, parts_text, moves_text, side_text, first_text, Job, job_text, part_limit, GoodPart, GoodParts, GoodMoves, GoodJob}
+use Rattle.job.specs.Grammar.{Part, tree, snort, kind, body_text, part_text, parts_text, moves_text, side_text, first_text, Job, job_text, part_limit, GoodPart, GoodParts, GoodMoves, GoodJob}
 use Rattle.job.specs.Values.{kind_of}
 use Rattle.job.specs.Reads.{side_line, first_line, body_lines, part_lines, parts_lines, moves_lines, job_lines, ended, read_job}
 use Rattle.job.specs.Law.{Says, JobExact}
-use Rattle.job.proofs.Heads.{Any, side_reads, first_reads, kind_sound, kind_complete, kind_clear, moves_reads}
+use Rattle.job.proofs.Heads.{Any, side_reads, first_reads, kind_reads, moves_reads}
 
 module _ (lent room : ℕ) where
   abbrev OfKind : Kind → Part → Type 0
@@ -55,7 +55,7 @@ module _ (lent room : ℕ) where
   unfolding part_lines part_text
   part_reads = reads_as (part_lines lent room) _ part_text _ (GoodPart lent room) (λ b. refl) (λ b g. g.1) (λ b g. (tt, g))
       (seq_reads kind (entry key.Rules (form kind_of)) _ Any (body_lines lent room) body_text OfKind (GoodPart lent room)
-      (entry_reads key.Rules (form kind_of) kind_text Any (form_whole kind_of kind_text Any kind_sound kind_complete kind_clear))
+      kind_reads
       body_reads of_kind to_kind)
 
   pub parts_reads : Reads (parts_lines lent room) parts_text (GoodParts lent room)

@@ -3,14 +3,11 @@ use Rattle.std.proofs.Common.{◌≡◌, ℕ, zero, suc, ◌+◌, ◌-◌, ◌<�
 use Rattle.terms.specs.declared.fault.Fault.{Fault}
 use Rattle.lines.specs.Reading.{State, Reading, then, times}
 use Rattle.lines.specs.Reading.{◌>>=◌}
-use Rattle.lines.proofs.Fields.{ok_same, err_ok, err_same}
+use Rattle.lines.proofs.Fields.{ok_same, err_ok}
 use Rattle.lines.proofs.Laws.{then_ok}
 use Rattle.job.specs.Account.{passed, counted}
 
 module _ {A : Type 0} (p : Reading A) (n : ℕ) (s₀ : State) where
-  pub pass_first : passed (times (n - 0) p) s₀ ≡ passed (times n p) s₀
-  pass_first = let q : n - 0 ≡ n = omega arith in ap (λ k. passed (times k p) s₀) q
-
   pub pass_more : (i : ℕ) (s t : State) (a : A) → i < n → Ok (a, t) ≡ p s → passed (times (n - i) p) s ≡ passed (times n p) s₀ → passed (times (n - (i + 1)) p) t ≡ passed (times n p) s₀
   pass_more i s t a h e inv =
       let k : n - i ≡ suc (n - (i + 1)) = omega arith in
@@ -21,15 +18,6 @@ module _ {A : Type 0} (p : Reading A) (n : ℕ) (s₀ : State) where
       one : (r : Result (List A × State) Fault) → then {A = List A × State} {B = Unit {0} × State} (then r (λ z. Ok (a ∷ z.0, z.1))) (λ q. Ok (tt, q.1)) ≡ then r (λ q. Ok (tt, q.1))
       one (Ok z) = refl
       one (Err d) = refl
-
-  pub pass_stops : (i : ℕ) (s : State) (d : Fault) → i < n → Err d ≡ p s → passed (times (n - i) p) s ≡ passed (times n p) s₀ → Err d ≡ passed (times n p) s₀
-  pass_stops i s d h e inv =
-      let k : n - i ≡ suc (n - (i + 1)) = omega arith in
-      ap (λ r. then {A = List A × State} {B = Unit {0} × State} (then r (λ q. then (times (n - (i + 1)) p q.1) (λ z. Ok (q.0 ∷ z.0, z.1)))) (λ q. Ok (tt, q.1))) e
-      ∙ (ap (λ m. passed (times m p) s) (sym k) ∙ inv)
-
-  pub pass_last : (i : ℕ) (s : State) → n - i ≡ 0 → passed (times (n - i) p) s ≡ passed (times n p) s₀ → Ok (tt, s) ≡ passed (times n p) s₀
-  pass_last i s z inv = ap (λ m. passed (times m p) s) (sym z) ∙ inv
 
 -- as many as were asked for
 times_long : {A : Type 0} (p : Reading A) (n : ℕ) (s : State) (xs : List A) (t : State) → times n p s ≡ Ok (xs, t) → length xs ≡ n
@@ -76,10 +64,3 @@ module _ {A : Type 0} (p : Reading A) (n : ℕ) (s₀ : State) where
       go : (r : Result (A × State) Fault) → r ≡ p s → Ok (tt, t) ≡ then {B = Unit {0} × State} r (λ q. Ok (tt, q.1)) → passed (times (n - (i + 1)) p) t ≡ passed (times n p) s₀
       go (Ok (a, u)) q e = let w : t ≡ u = ap (λ x. x.1) (ok_same e) in pass_more p n s₀ i s t a h (ap (λ v. Ok (a, v)) w ∙ q) inv
       go (Err d) q e = err_ok (sym e)
-
-  pub forget_stops : (i : ℕ) (s : State) (d : Fault) → i < n → Err d ≡ passed p s → passed (times (n - i) p) s ≡ passed (times n p) s₀ → Err d ≡ passed (times n p) s₀
-  forget_stops i s d h e inv = go (p s) refl e
-    where
-      go : (r : Result (A × State) Fault) → r ≡ p s → Err d ≡ then {B = Unit {0} × State} r (λ q. Ok (tt, q.1)) → Err d ≡ passed (times n p) s₀
-      go (Ok q) w e = err_ok e
-      go (Err c) w e = let same : d ≡ c = err_same e in pass_stops p n s₀ i s d h (ap Err same ∙ w) inv

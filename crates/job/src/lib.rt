@@ -5,14 +5,14 @@
 mod account;
 mod check;
 mod counts;
-mod head;
 mod kind;
 mod moves;
 mod parts;
+mod word;
 
 pub use account::Account;
 pub use check::check_text;
-pub use head::{read_first, read_side};
-pub use kind::{Kind, read_kind};
-pub use moves::{Move, count_moves, read_count, read_move};
-pub use parts::{count_parts, pass_part};
+pub use kind::Kind;
+pub use moves::{MOST_MOVES, Move, count_moves, read_count, read_move};
+pub use parts::{MOST_PARTS, count_parts, pass_part};
+pub use word::{Word, read_word};

@@ -8,8 +8,8 @@ ghost use Rattle.job.specs.Values.{move_of};
 ghost use Rattle.job.specs.Reads.{move_line, moves_lines};
 
 use lines::{Key, Reader, cut};
-use numbers::read_upto;
-use terms::{Fault, Refusal};
+use numbers::Text;
+use terms::Fault;
 
 // A move: the number of a part, and of an option of whoever is to move there.
 #[derive(Clone, Copy)]
@@ -24,19 +24,14 @@ const LAST_PART: u16 = 7;
 const LAST_OPTION: u16 = 15;
 
 // The most moves of a job.
-const MOST_MOVES: u16 = 96;
+pub const MOST_MOVES: u16 = 96;
 
-fn move_of(value: &[u8], line: u32) -> Result<Move, Fault>
-    ensures { result ≡ judged (move_of value.now) line }
+fn move_of(value: Text<'_>) -> Result<Move, Fault>
+    ensures { result ≡ judged (move_of value.entry.bytes.now) value.entry.line }
 {
-    let Some((part, option)) = cut(value, b',') else {
-        return Err(Fault {
-            refusal: Refusal::WrongForm,
-            line,
-        });
-    };
-    let part = read_upto(part, LAST_PART, line)?;
-    let option = read_upto(option, LAST_OPTION, line)?;
+    let (part, option) = cut(value.bytes, b',').ok_or(value.wrong())?;
+    let part = value.part(part).upto(LAST_PART)?;
+    let option = value.part(option).upto(LAST_OPTION)?;
     Ok(Move {
         part: part as u8,
         option: option as u8,
@@ -47,23 +42,21 @@ fn move_of(value: &[u8], line: u32) -> Result<Move, Fault>
 pub fn read_move(reader: &mut Reader) -> Result<Move, Fault>
     ensures { gave result reader.new ≡ move_line (seen reader.old) }
 {
-    let (value, line) = reader.value(Key::Move)?;
-    move_of(value, line)
+    move_of(reader.value(Key::Move)?)
 }
 
 // A line of which the value is a number up to `most`.
 pub fn read_count(reader: &mut Reader, key: Key, most: u16) -> Result<u16, Fault>
     ensures { gave result reader.new ≡ entry key (form (upto most)) (seen reader.old) }
 {
-    let (value, line) = reader.value(key)?;
-    read_upto(value, most, line)
+    reader.value(key)?.upto(most)
 }
 
-// So many lines move=.
+// So many lines move=; see pass_parts for why no one loop serves both.
 fn pass_moves(reader: &mut Reader, n: u16) -> Result<(), Fault>
     ensures { gave result reader.new ≡ passed (times n move_line) (seen reader.old) }
 {
-    for i in 0..n {
+    for _ in 0..n {
         read_move(reader)?;
     }
     Ok(())

@@ -17,8 +17,7 @@ use Rattle.trees.specs.Written as written
 use Rattle.trees.specs.Written.{row_limit, pick_limit, blank, named, all_above, lawful_list, score_or_zero, open_row, options_at, tree_at}
 use Rattle.trees.specs.WrittenLemmas.{Above, as_written, row_read}
 use Rattle.lines.specs.Reading.{State, Along}
-use Rattle.tree_text.specs.declared.place.Place.{Place}
-use Rattle.tree_text.specs.Rows.{Row, leaf, fork, picked, after_row, top, tree_lines, GoodRow, GoodTree}
+use Rattle.tree_text.specs.Rows.{Place, Row, leaf, fork, picked, after_row, top, tree_lines, GoodRow, GoodTree}
 use Rattle.tree_text.specs.Written.{row_at, rows_from, picks_of, Holds}
 use Rattle.tree_text.proofs.Exact.{tree_reads}
 use Rattle.job.specs.Grammar.{tree}

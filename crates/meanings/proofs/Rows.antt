@@ -13,8 +13,7 @@ use Rattle.rules.proofs.Options.{map_same, all_map, same_tree}
 use Rattle.rules.proofs.Positions.{options_open, lawful_position}
 use Rattle.trees.specs.WrittenLemmas.{Above}
 use Rattle.lines.specs.Reading.{Along}
-use Rattle.tree_text.specs.declared.place.Place.{Place}
-use Rattle.tree_text.specs.Rows.{Row, leaf, fork, behind, after_row, top, GoodLinks, GoodRow, GoodTree}
+use Rattle.tree_text.specs.Rows.{Place, Row, leaf, fork, behind, after_row, top, GoodLinks, GoodRow, GoodTree}
 use Rattle.meanings.specs.Meaning.{row_of, row_tree, tree_within, tree_of}
 use Rattle.meanings.specs.Laws.{Says, Agrees, RowsAsSaid}
 

@@ -20,12 +20,9 @@ mod tests {
 
     // The first case that is told otherwise than it says.
     fn told_otherwise(cases: &[(&[u8], u8, u32)]) -> Option<usize> {
-        for (i, case) in cases.iter().enumerate() {
-            if told(case.0) != (case.1, case.2) {
-                return Some(i);
-            }
-        }
-        None
+        cases
+            .iter()
+            .position(|(job, number, line)| told(job) != (*number, *line))
     }
 
     #[test]

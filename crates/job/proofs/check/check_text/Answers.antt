@@ -1,5 +1,5 @@
 use Rattle.job.proofs.Jobs.{job_exact}
 use Rattle.job.proofs.check.check_text.Goals as goal
 
-pub returns : goal.returns
-returns c = record { account = c.read_text-account.ensures; blank = c.clear.ensures; exact = job_exact }
+pub returns-clause-exact : goal.returns-clause-exact
+returns-clause-exact c = job_exact
