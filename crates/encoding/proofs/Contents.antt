@@ -1,15 +1,15 @@
 -- The one list of trees that a bank holds, as a function of the bank, though its fields keep only that there is such a list.
 -- H ts says that the columns are those of ts: rows alone (Holds), or rows with figures and corners beside them; Only H is what rows_tell_trees_lem gives.
-use Rattle.std.proofs.Common.{◌≡◌, ℕ, List, refl, arith}
+use Rattle.std.proofs.Common.{◌≡◌, ℕ, List, refl, ap, arith}
 use mathlib.Core.List.{is_set}
 use mathlib.Core.Logic.{∥∥₁_elim, ∥∥₁_prop}
 use mathlib.Core.HLevel.{Σ_prop_path, hedberg}
-use lib.IntN.{ℤ_set}
-use native.Mathlib.Nat.{ℕ_set}
+use lib.IntN.{ℤ_set, ℤ_discrete}
+use native.Mathlib.Decide.{ℕ_discrete}
 use Rattle.theory.specs.Trees.{Tree, Tree-set}
 use Rattle.spreading.specs.declared.shape.Shape.{Shape}
-use Rattle.spreading.specs.declared.shape.Kind.{Kind}
-use Rattle.spreading.specs.declared.shape.Kind.TheVariants.{Unused, Ended, Open}
+use Rattle.spreading.specs.declared.shape.Shape.TheVariants.{Unused, Ended, Open}
+use Rattle.spreading.specs.declared.shape.Fork.{Fork}
 
 pub lists_set : IsSet (List Tree)
 lists_set = is_set (Tree-set ℤ_set)
@@ -34,28 +34,30 @@ content_is H only some ts h =
     ∥∥₁_elim c.1 (lists_set c.0 ts) (λ g. only c.0 ts g h)
 
 -- shapes are a set, so that equations between them follow from what a bank holds though only its existence is kept
-kinds : (a b : Kind) → Dec (a ≡ b)
-kinds Unused Unused = yes refl
-kinds Unused Ended = no (λ e. let z : ◌≡◌ {A = ℕ} 0 1 = cc in omega arith)
-kinds Unused Open = no (λ e. let z : ◌≡◌ {A = ℕ} 0 1 = cc in omega arith)
-kinds Ended Unused = no (λ e. let z : ◌≡◌ {A = ℕ} 0 1 = cc in omega arith)
-kinds Ended Ended = yes refl
-kinds Ended Open = no (λ e. let z : ◌≡◌ {A = ℕ} 0 1 = cc in omega arith)
-kinds Open Unused = no (λ e. let z : ◌≡◌ {A = ℕ} 0 1 = cc in omega arith)
-kinds Open Ended = no (λ e. let z : ◌≡◌ {A = ℕ} 0 1 = cc in omega arith)
-kinds Open Open = yes refl
+same_fork : (x y : Fork) → Dec (x ≡ y)
+same_fork x y =
+    elim (ℕ_discrete x.first y.first) [
+      | no n ↦ no (λ e. n (ap (λ (z : Fork). z.first) e))
+      | yes p ↦
+          elim (ℕ_discrete x.lefts y.lefts) [
+            | no n ↦ no (λ e. n (ap (λ (z : Fork). z.lefts) e))
+            | yes q ↦ elim (ℕ_discrete x.rights y.rights) [ no n ↦ no (λ e. n (ap (λ (z : Fork). z.rights) e)) | yes r ↦ yes (λ i. record { first = p i; lefts = q i; rights = r i }) ]
+          ]
+    ]
 
-kind_set : IsSet Kind
-kind_set = hedberg kinds
+same_shape : (x y : Shape) → Dec (x ≡ y)
+same_shape Unused Unused = yes refl
+same_shape Unused (Ended w) = no (λ e. let z : ◌≡◌ {A = ℕ} 0 1 = cc in omega arith)
+same_shape Unused (Open y) = no (λ e. let z : ◌≡◌ {A = ℕ} 0 1 = cc in omega arith)
+same_shape (Ended v) Unused = no (λ e. let z : ◌≡◌ {A = ℕ} 0 1 = cc in omega arith)
+same_shape (Ended v) (Ended w) = elim (ℤ_discrete v w) [ yes p ↦ yes (ap Ended p) | no n ↦ no (λ e. n cc) ]
+same_shape (Ended v) (Open y) = no (λ e. let z : ◌≡◌ {A = ℕ} 0 1 = cc in omega arith)
+same_shape (Open x) Unused = no (λ e. let z : ◌≡◌ {A = ℕ} 0 1 = cc in omega arith)
+same_shape (Open x) (Ended w) = no (λ e. let z : ◌≡◌ {A = ℕ} 0 1 = cc in omega arith)
+same_shape (Open x) (Open y) = elim (same_fork x y) [ yes p ↦ yes (ap Open p) | no n ↦ no (λ e. n cc) ]
 
 pub shape_set : IsSet Shape
-shape_set x y p q = λ i j. record {
-  kind = kind_set x.kind y.kind (λ k. (p k).kind) (λ k. (q k).kind) i j;
-  score = ℤ_set x.score y.score (λ k. (p k).score) (λ k. (q k).score) i j;
-  first = ℕ_set x.first y.first (λ k. (p k).first) (λ k. (q k).first) i j;
-  lefts = ℕ_set x.lefts y.lefts (λ k. (p k).lefts) (λ k. (q k).lefts) i j;
-  rights = ℕ_set x.rights y.rights (λ k. (p k).rights) (λ k. (q k).rights) i j;
-}
+shape_set = hedberg same_shape
 
 pub shapes_set : IsSet (List Shape)
 shapes_set = is_set shape_set

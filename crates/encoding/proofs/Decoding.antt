@@ -3,11 +3,11 @@ use Rattle.std.proofs.Common.{◌≡◌, ℕ, zero, suc, ◌+◌, ◌<◌, ◌�
 use native.Mathlib.Decide.{dec_lt}
 use Rattle.std.specs.List.{flat_map}
 use Rattle.std.proofs.lemmas.List.{get_or_append_left, get_or-append-add, ext_get_or, take_all}
+use Rattle.terms.specs.declared.side.Side.TheVariants.{Left, Right}
 use Rattle.theory.specs.Trees.{Tree, Forest, ended, branch, one, more, trees, size}
 use Rattle.spreading.specs.Order.{children, none, row, first}
-use Rattle.spreading.specs.Shapes.{blank, shape_of, shape_at, shapes_of}
+use Rattle.spreading.specs.Shapes.{blank, shape_of, shape_at, shapes_of, start_of, count_of}
 use Rattle.spreading.specs.declared.shape.Shape.{Shape}
-use Rattle.spreading.specs.declared.shape.Kind.TheVariants.{Ended, Open}
 use Rattle.spreading.proofs.Rows.{row_zero, size_children, child_row, children_inside, first_behind}
 use Rattle.spreading.proofs.Shapes.{length_shapes, get_d_shapes}
 use Rattle.encoding.specs.Columns.{Column}
@@ -31,13 +31,13 @@ one_forest (more x F) (more y G) e =
 -- a shape and the options give the position
 position : (f g : ℕ) (x y : Tree) → shape_of f x ≡ shape_of g y
     → (f ≡ g → (k : ℕ) → k < length (children x) → k < length (children y) → get_or (children x) k none ≡ get_or (children y) k none) → x ≡ y
-position f g (ended v) (ended w) e h = ap ended (ap (λ (z : Shape). z.score) e)
-position f g (ended v) (branch L R) e h = let q : Ended ≡ Open = ap (λ (z : Shape). z.kind) e in let z : ◌≡◌ {A = ℕ} 0 1 = cc in absurd (omega arith)
-position f g (branch L R) (ended w) e h = let q : Open ≡ Ended = ap (λ (z : Shape). z.kind) e in let z : ◌≡◌ {A = ℕ} 0 1 = cc in absurd (omega arith)
+position f g (ended v) (ended w) e h = let q : v ≡ w = cc in ap ended q
+position f g (ended v) (branch L R) e h = let z : ◌≡◌ {A = ℕ} 0 1 = cc in absurd (omega arith)
+position f g (branch L R) (ended w) e h = let z : ◌≡◌ {A = ℕ} 0 1 = cc in absurd (omega arith)
 position f g (branch L R) (branch L' R') e h =
-    let from : f ≡ g = ap (λ (z : Shape). z.first) e in
-    let ls : length (trees L) ≡ length (trees L') = ap (λ (z : Shape). z.lefts) e in
-    let rs : length (trees R) ≡ length (trees R') = ap (λ (z : Shape). z.rights) e in
+    let from : f ≡ g = ap (λ (z : Shape). start_of z Left) e in
+    let ls : length (trees L) ≡ length (trees L') = ap (λ (z : Shape). count_of z Left) e in
+    let rs : length (trees R) ≡ length (trees R') = ap (λ (z : Shape). count_of z Right) e in
     let wide = length-append (trees L) (trees R) in
     let wide' = length-append (trees L') (trees R') in
     let left : trees L ≡ trees L' = ext_get_or none (trees L) (trees L') ls (λ k lt.

@@ -1,38 +1,40 @@
 -- Heights, from the options' to the row's and from the last row up.
-use Rattle.std.proofs.Common.{◌≡◌, ℕ, suc, ◌+◌, ◌-◌, ◌<◌, ◌≤◌, max, List, [], ◌∷◌, ◌++◌, map, length, get_or, take, drop, ℤ, refl, ap, ◌∙◌, arith, length-append}
-use Rattle.std.proofs.lemmas.List.{take_more, map-append}
+use Rattle.std.proofs.Common.{◌≡◌, ℕ, zero, suc, Some, None, Option, MatchOption, unwrap_or, ◌+◌, ◌-◌, ◌<◌, ◌≤◌, max, List, [], ◌∷◌, ◌++◌, map, length, get_or, take, drop, ℤ, refl, ap, ◌∙◌, arith, length-append}
+use Rattle.std.proofs.lemmas.List.{map-append}
+use Rattle.terms.specs.declared.side.Side.TheVariants.{Left}
 use Rattle.theory.specs.Trees.{Tree, Forest, ended, branch, one, more, trees, size, height, height_f}
 use Rattle.spreading.specs.Order.{children, none, row, first}
-use Rattle.spreading.specs.Shapes.{shapes_of}
+use Rattle.spreading.specs.Shapes.{shape_at, start_of, end_of}
 use Rattle.spreading.specs.declared.shape.Shape.{Shape}
-use Rattle.spreading.specs.declared.shape.Kind.TheVariants.{Ended, Open}
+use Rattle.spreading.specs.declared.shape.Shape.TheVariants.{Open}
+use Rattle.spreading.specs.declared.shape.Fork.{Fork}
 use Rattle.spreading.proofs.Everywhere.{Each, each_none, each_one, each_cons, each_append, everywhere}
-use Rattle.spreading.proofs.Shapes.{read_shape}
 use Rattle.spreading.proofs.Passes.{Noted, Kept, children_noted}
 use Rattle.measures.specs.Figures.{greatest, HeightOf}
 use Rattle.measures.proofs.Entries.{part_is}
-
--- the running greatest
-pub greatest_none : greatest [] ≡ 0
-unfolding greatest
-greatest_none = refl
 
 greatest_append : (xs ys : List ℕ) → greatest (xs ++ ys) ≡ max (greatest xs) (greatest ys)
 unfolding greatest
 greatest_append [] ys = omega arith
 greatest_append (x ∷ xs) ys = omega (arith, greatest_append xs ys)
 
-greatest_one : (x : ℕ) → greatest (x ∷ []) ≡ x
+greatest_over : (xs : List ℕ) (k : ℕ) → get_or xs k 0 ≤ greatest xs
 unfolding greatest
-greatest_one x = omega arith
+greatest_over [] k = omega arith
+greatest_over (x ∷ xs) zero = omega arith
+greatest_over (x ∷ xs) (suc k) = omega (arith, greatest_over xs k)
 
-pub greatest_more : (xs : List ℕ) (i : ℕ) → i < length xs → greatest (take (i + 1) xs) ≡ max (greatest (take i xs)) (get_or xs i 0)
-greatest_more xs i lt = ap greatest (take_more xs i 0 lt) ∙ greatest_append (take i xs) (get_or xs i 0 ∷ []) ∙ ap (max (greatest (take i xs))) (greatest_one (get_or xs i 0))
-
-pub greatest_low : (m : ℕ) (xs : List ℕ) → ((k : ℕ) → get_or xs k 0 ≤ m) → greatest xs ≤ m
+pub greatest_most : (m : ℕ) (xs : List ℕ) → ((k : ℕ) → k < length xs → get_or xs k 0 ≤ m) → greatest xs ≤ m
 unfolding greatest
-greatest_low m [] h = omega arith
-greatest_low m (x ∷ xs) h = omega (arith, h 0, greatest_low m xs (λ k. h (suc k)))
+greatest_most m [] h = omega arith
+greatest_most m (x ∷ xs) h = omega (arith, h 0 (omega arith), greatest_most m xs (λ k lt. h (suc k) (omega arith)))
+
+-- the greatest is one of them, and none is over it; or there are none
+pub greatest_is : (xs : List ℕ) (m : Option ℕ) → MatchOption m (length xs ≡ 0) (λ v. ((k : ℕ) × (k < length xs) × (get_or xs k 0 ≡ v)) × ((k : ℕ) → k < length xs → get_or xs k 0 ≤ v)) → unwrap_or m 0 ≡ greatest xs
+unfolding greatest
+greatest_is [] None h = refl
+greatest_is (x ∷ xs) None h = absurd (omega arith)
+greatest_is xs (Some v) h = omega (arith, h.0.2, greatest_over xs h.0.0, greatest_most v xs h.1)
 
 -- the height of a position from those of its options
 greatest_forest : (F : Forest) → greatest (map height (trees F)) ≡ height_f F
@@ -51,31 +53,25 @@ unfolding height
 height_ended v = refl
 
 -- as the code reads it off a shape
-pub open_height : (shape : Shape) (heights : List ℕ) (to h : ℕ) → shape.kind ≡ Open → to ≡ shape.first + (shape.lefts + shape.rights) → to ≤ length heights
-    → h ≡ 1 + greatest (take (to - shape.first) (drop shape.first heights)) → HeightOf shape heights h
-open_height shape heights to h is_open ends inside e f (ended v) is noted =
-    let q : shape.kind ≡ Ended = ap (λ (z : Shape). z.kind) is in
-    let z : ◌≡◌ {A = ℕ} 0 1 = cc in
-    absurd (omega arith)
-open_height shape heights to h is_open ends inside e f (branch L R) is noted =
-    let x = branch L R in
-    let from : shape.first ≡ f = ap (λ (z : Shape). z.first) is in
-    let lefts : shape.lefts ≡ length (trees L) = ap (λ (z : Shape). z.lefts) is in
-    let rights : shape.rights ≡ length (trees R) = ap (λ (z : Shape). z.rights) is in
-    let many : f + length (children x) ≡ to = omega (arith, length-append (trees L) (trees R)) in
-    let part : take (to - f) (drop f heights) ≡ map height (children x) = part_is height 0 heights f to (children x) many inside noted in
-    let cut : greatest (take (to - shape.first) (drop shape.first heights)) ≡ greatest (map height (children x)) = ap (λ n. greatest (take (to - n) (drop n heights))) from ∙ ap greatest part in
+pub open_height : (x : Fork) (heights : List ℕ) (from to h : ℕ) → from ≡ x.first → to ≡ end_of (Open x) → to ≤ length heights
+    → h ≡ 1 + greatest (take (to - from) (drop from heights)) → HeightOf (Open x) heights h
+open_height x heights from to h begins ends inside e f (ended v) is noted = let z : ◌≡◌ {A = ℕ} 0 1 = cc in absurd (omega arith)
+open_height x heights from to h begins ends inside e f (branch L R) is noted =
+    let same : x.first ≡ f = ap (λ (z : Shape). start_of z Left) is in
+    let many : f + length (children (branch L R)) ≡ to = omega (arith, ap end_of is, length-append (trees L) (trees R)) in
+    let part : take (to - f) (drop f heights) ≡ map height (children (branch L R)) = part_is height 0 heights f to (children (branch L R)) many inside noted in
+    let cut : greatest (take (to - from) (drop from heights)) ≡ greatest (map height (children (branch L R))) = ap (λ n. greatest (take (to - n) (drop n heights))) (begins ∙ same) ∙ ap greatest part in
     omega (arith, height_children L R)
 
-pub other_height : (shape : Shape) (heights : List ℕ) → (shape.kind ≡ Open → ⊥) → HeightOf shape heights 0
+pub other_height : (shape : Shape) (heights : List ℕ) → ((x : Fork) → shape ≡ Open x → ⊥) → HeightOf shape heights 0
 other_height shape heights not-open f (ended v) is noted = height_ended v
-other_height shape heights not-open f (branch L R) is noted = absurd (not-open (ap (λ (z : Shape). z.kind) is))
+other_height shape heights not-open f (branch L R) is noted = absurd (not-open _ is)
 
 -- the height of row i, once those behind it are noted
-pub height_read : (t : Tree) (i : ℕ) (shapes : List Shape) (d : Shape) (heights : List ℕ) (h : ℕ) → shapes ≡ shapes_of t → i < size t
-    → HeightOf (get_or shapes i d) heights h → Noted (Kept height 0 heights) t (suc i) → h ≡ height (row t i)
-height_read t i shapes d heights h rows lt is old =
-    is (first t i) (row t i) (read_shape t shapes i d rows lt) (children_noted (Kept height 0 heights) t i lt old)
+pub height_read : (t : Tree) (i : ℕ) (x : Shape) (heights : List ℕ) (h : ℕ) → i < size t → x ≡ shape_at t i
+    → HeightOf x heights h → Noted (Kept height 0 heights) t (suc i) → h ≡ height (row t i)
+height_read t i x heights h lt here is old =
+    is (first t i) (row t i) here (children_noted (Kept height 0 heights) t i lt old)
 
 -- no row is higher than the tree
 trees_lower : (F : Forest) (h : ℕ) → height_f F ≤ h → Each (λ x. height x ≤ h) (trees F)

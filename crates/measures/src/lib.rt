@@ -2,8 +2,9 @@
 
 #![tactic(auto)]
 
+mod cold;
 mod heights;
 mod stops;
 
+pub use cold::any_cold;
 pub use heights::too_high;
-pub use stops::any_cold;

@@ -4,15 +4,16 @@
 -- · that a turn at row i keeps what N says of the rows behind it (behind, in noted_more),
 -- · that after it N holds of row i, from what options_noted gives of each side's options.
 -- The invariant then begins with noted_none and ends with noted_root.
-use Rattle.std.proofs.Common.{◌≡◌, ℕ, suc, ◌+◌, ◌<◌, ◌≤◌, ◌≢◌, List, length, get_or, set, sym, ◌∙◌, subst, arith}
+use Rattle.std.proofs.Common.{◌≡◌, ℕ, suc, ◌+◌, ◌<◌, ◌≤◌, ◌≢◌, List, [], ◌∷◌, ◌++◌, length, get_or, set, sym, refl, ap, ◌∙◌, subst, append_assoc, arith, length-append}
 use native.Mathlib.Decide.{dec_lt}
-use Rattle.std.proofs.lemmas.List.{get_or-set_same, get_or-set_other}
+use Rattle.std.proofs.lemmas.List.{get_or-set_same, get_or-set_other, get_or_at, append-nil, length_push}
 use Rattle.terms.specs.declared.side.Side.{Side}
 use Rattle.theory.specs.Trees.{Tree, options, size}
 use Rattle.spreading.specs.Order.{children, none, row, first}
-use Rattle.spreading.specs.Shapes.{shape_at, start_of}
+use Rattle.spreading.specs.Shapes.{blank, shape_at, shapes_of, start_of}
+use Rattle.spreading.specs.declared.shape.Shape.{Shape}
 use Rattle.spreading.proofs.Rows.{child_row, children_inside, first_behind, row_zero, size_children}
-use Rattle.spreading.proofs.Shapes.{child_of}
+use Rattle.spreading.proofs.Shapes.{length_shapes, read_shape, child_of}
 
 -- rows i and later have been noted
 abbrev pub Noted : (ℕ → Tree → Type 0) → Tree → ℕ → Type 0
@@ -56,3 +57,33 @@ kept_more figure d t i kept a room is h =
     noted_more (Kept figure d kept) (Kept figure d (set kept i a)) t i
     (λ k x lt e. let ne : k ≢ i = omega arith in get_or-set_other kept i k a d ne ∙ e)
     (get_or-set_same kept i a d room ∙ is) h
+
+-- A loop over the rows with their numbers from the last up: what its iterator has left is the front of the list, and its last item is the row at hand.
+abbrev pub Front : {A : Type 0} → List A → List A → Type 0
+Front {A = A} xs rest = (later : List A) × (xs ≡ rest ++ later)
+
+pub front_all : {A : Type 0} (xs : List A) → Front xs xs
+front_all xs = ([], sym (append-nil xs))
+
+pub front_turn : {A : Type 0} (xs rest rest' : List A) (x : A) → Front xs rest → rest ≡ rest' ++ (x ∷ [])
+    → Front xs rest' × (length rest ≡ suc (length rest')) × (length rest' < length xs) × ((d : A) → get_or xs (length rest') d ≡ x)
+front_turn xs rest rest' x front last =
+    let later = front.0 in
+    let cut : xs ≡ rest' ++ (x ∷ later) = front.1 ∙ ap (λ l. l ++ later) last ∙ append_assoc rest' (x ∷ []) later in (
+      (x ∷ later, cut),
+      omega (arith, ap length last, length_push rest' x),
+      omega (arith, ap length cut, length-append rest' (x ∷ later)),
+      λ d. ap (λ l. get_or l (length rest') d) cut ∙ get_or_at rest' x later d (length rest') refl,
+    )
+
+-- the turn at row i: it is a row of the tree, its shape is at hand, and the rows behind it are noted
+pub row_turn : (N : ℕ → Tree → Type 0) (t : Tree) (i : ℕ) (shapes rest rest' : List Shape) (x : Shape)
+    → Front shapes rest → rest ≡ rest' ++ (x ∷ []) → i ≡ length rest' → shapes ≡ shapes_of t → Noted N t (length rest)
+    → (i < size t) × (x ≡ shape_at t i) × Noted N t (suc i)
+row_turn N t i shapes rest rest' x front last at rows old =
+    let turn = front_turn shapes rest rest' x front last in
+    let here : i < size t = omega (arith, turn.2, ap length rows, length_shapes t) in (
+      here,
+      sym (turn.3 blank) ∙ ap (λ n. get_or shapes n blank) (sym at) ∙ read_shape t shapes i blank rows here,
+      subst (λ n. Noted N t n) (omega (arith, turn.1)) old,
+    )

@@ -2,13 +2,14 @@
 use Rattle.std.proofs.Common.{◌≡◌, ℕ, ◌+◌, ◌<◌, ◌≤◌, List, ◌++◌, length, get_or, take, drop, sym, refl, ap, ◌∙◌, subst, arith, length-append}
 use Rattle.std.proofs.lemmas.List.FromFn.{length-map-range_with_len, get_or-map-range_with_len, fill_by_all}
 use Rattle.std.proofs.lemmas.List.{get_or_append_left, get_or-append-add, get_or-take, length-take-le, take-append-drop}
-use Rattle.std.proofs.lemmas.Int.{ints}
 use Rattle.terms.specs.declared.side.Side.{Side}
 use Rattle.terms.specs.declared.side.Side.TheVariants.{Left, Right}
 use Rattle.theory.specs.Trees.{Tree, ended, branch, trees, options, size, Lawful}
 use Rattle.spreading.specs.Order.{children, none, row, first}
-use Rattle.spreading.specs.Shapes.{blank, shape_of, shape_at, shapes_of, start_of, count_of, Sound, SoundRow}
+use Rattle.spreading.specs.Shapes.{blank, shape_of, shape_at, shapes_of, start_of, count_of, end_of, Sound, SoundRow}
 use Rattle.spreading.specs.declared.shape.Shape.{Shape}
+use Rattle.spreading.specs.declared.shape.Shape.TheVariants.{Unused, Ended, Open}
+use Rattle.spreading.specs.declared.shape.Fork.{Fork}
 use Rattle.spreading.proofs.Rows.{children_inside}
 use Rattle.spreading.proofs.Everywhere.{rows_lawful}
 
@@ -42,10 +43,20 @@ count_is f (ended v) Right = refl
 count_is f (branch L R) Left = refl
 count_is f (branch L R) Right = refl
 
--- a sound row has each side's options among the rows
-pub side_inside : (n : ℕ) (x : Shape) (s : Side) → SoundRow n x → start_of x s + count_of x s ≤ n
-side_inside n x Left h = omega (arith, h.inside)
-side_inside n x Right h = omega (arith, h.inside)
+-- a sound row has its options among the rows: each side's of an open one
+pub side_inside : (n : ℕ) (x : Fork) (s : Side) → end_of (Open x) ≤ n → start_of (Open x) s + count_of (Open x) s ≤ n
+side_inside n x Left h = omega arith
+side_inside n x Right h = omega arith
+
+-- and all of them
+pub sound_inside : (n : ℕ) (x : Shape) → SoundRow n x → end_of x ≤ n
+sound_inside n Unused h = omega arith
+sound_inside n (Ended v) h = omega arith
+sound_inside n (Open x) h = h
+
+pub shape_inside : (n f : ℕ) (x : Tree) → (f + length (children x)) ≤ n → end_of (shape_of f x) ≤ n
+shape_inside n f (ended v) h = omega arith
+shape_inside n f (branch L R) h = omega (arith, length-append (trees L) (trees R))
 
 -- each side's options, among those of both
 pub child_of : (f : ℕ) (x : Tree) (s : Side) (k : ℕ) → k < length (options x s)
@@ -60,8 +71,8 @@ child_of f (branch L R) Right k lt = (
 )
 
 sound_of : (n f : ℕ) (x : Tree) → Lawful x → (f + length (children x)) ≤ n → SoundRow n (shape_of f x)
-sound_of n f (ended v) g h = record { inside = omega arith; score = g }
-sound_of n f (branch L R) g h = record { inside = omega (arith, length-append (trees L) (trees R)); score = (omega (arith, ints), omega (arith, ints)) }
+sound_of n f (ended v) g h = g
+sound_of n f (branch L R) g h = shape_inside n f (branch L R) h
 
 -- the rows of a lawful tree are sound
 pub sound_shapes : (t : Tree) → Lawful t → Sound (shapes_of t)

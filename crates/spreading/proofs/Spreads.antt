@@ -1,26 +1,19 @@
 -- How the rows grow: the codes of the positions found so far, and the rows that are written.
-use Rattle.std.proofs.Common.{◌≡◌, ℕ, zero, suc, ◌+◌, ◌<◌, ◌≤◌, ◌≢◌, List, [], ◌∷◌, ◌++◌, length, get_or, take, drop, set, ℤ, pos, Some, None, Option, sym, refl, ap, ◌∙◌, subst, append_assoc, le_of_suc-le-suc, not-suc-le-zero, arith, length-append}
+use Rattle.std.proofs.Common.{◌≡◌, ℕ, zero, suc, ◌+◌, ◌-◌, ◌<◌, ◌≤◌, ◌≢◌, List, [], ◌∷◌, ◌++◌, length, get_or, take, drop, set, Some, None, Option, sym, refl, ap, ◌∙◌, subst, append_assoc, le_of_suc-le-suc, not-suc-le-zero, arith, length-append, length-drop}
 use native.Mathlib.Decide.{dec_lt}
-use Rattle.std.proofs.lemmas.List.{get_or_append_left, get_or_at, get_or-set_same, get_or-set_other, take_more, length-take-le, length_push, drop-drop, drop-set-lt}
+use borrow.Rule.Slice.PartMut.{put_mid, post_of}
+use Rattle.std.proofs.lemmas.List.{get_or-append_right, get_or-take, length-take, get_or_append_left, get_or_at, get_or-set_same, get_or-set_other, take_more, append-nil, nil_from_length, length-take-le, length_push, drop-drop, drop-set-lt}
 use Rattle.terms.specs.declared.side.Side.{Side}
 use Rattle.terms.specs.declared.side.Side.TheVariants.{Left, Right}
-use Rattle.theory.specs.Trees.{Tree, ended, branch, options, at, size}
-use Rattle.rules.specs.Meaning.{score_in, options_in}
+use Rattle.theory.specs.Trees.{Tree, options, at, size}
+use Rattle.rules.specs.Meaning.{options_in}
 use Rattle.spreading.specs.Order.{none, grown, row, first}
-use Rattle.spreading.specs.Shapes.{blank, shape_of, shape_at, shapes_of, Stand, SpreadInto}
+use Rattle.spreading.specs.Shapes.{blank, shape_of, shape_at, shapes_of, count_of, Stand, SpreadInto}
 use Rattle.spreading.specs.declared.shape.Shape.{Shape}
-use Rattle.spreading.specs.declared.shape.Kind.TheVariants.{Ended, Open}
+use Rattle.spreading.specs.declared.shape.Shape.TheVariants.{Unused, Ended, Open}
+use Rattle.spreading.specs.declared.shape.Fork.{Fork}
 use Rattle.spreading.proofs.Rows.{kept, within, grown_next, first_next, finished}
 use Rattle.spreading.proofs.Shapes.{RowsOf, all_rows, count_is}
-
--- the shape of a code, by the answer about its score
-pub ended_shape : (f : ℕ) (x : Tree) (v : ℤ) → Some v ≡ score_in (Some x) → ◌≡◌ {A = Shape} (record { kind = Ended; score = v; first = 0; lefts = 0; rights = 0 }) (shape_of f x)
-ended_shape f (ended w) v e = let q : v ≡ w = cc in rw q
-ended_shape f (branch L R) v e = let z : ◌≡◌ {A = ℕ} 0 1 = cc in absurd (omega arith)
-
-pub open_shape : (f : ℕ) (x : Tree) (l r : ℕ) → None ≡ score_in (Some x) → l ≡ length (options x Left) → r ≡ length (options x Right) → ◌≡◌ {A = Shape} (record { kind = Open; score = pos 0; first = f; lefts = l; rights = r }) (shape_of f x)
-open_shape f (ended v) l r e p q = let z : ◌≡◌ {A = ℕ} 0 1 = cc in absurd (omega arith)
-open_shape f (branch L R) l r e p q = rw (p, q)
 
 pub stand_push : (tree : ℕ → Option Tree) (codes : List ℕ) (xs : List Tree) (n c : ℕ) (x : Tree) → length xs ≡ n → n < length codes → tree c ≡ Some x → Stand tree codes xs → Stand tree (set codes n c) (xs ++ (x ∷ []))
 stand_push tree codes xs n c x len room e h k lt =
@@ -48,15 +41,33 @@ not_missing tree code x s k is lt e =
     omega arith
 
 -- one more option's code behind those that stand
-pub stand_more : (tree : ℕ → Option Tree) (code : ℕ) (codes : List ℕ) (xs : List Tree) (x : Tree) (s : Side) (from k c : ℕ)
-    → tree code ≡ Some x → length xs ≡ from → k < length (options x s) → (from + k) < length codes → tree c ≡ at (options_in (tree code) s) k
-    → Stand tree codes (xs ++ take k (options x s)) → Stand tree (set codes (from + k) c) (xs ++ take (k + 1) (options x s))
-stand_more tree code codes xs x s from k c is len lt room e h =
+pub stand_more : (tree : ℕ → Option Tree) (code : ℕ) (codes : List ℕ) (x : Tree) (s : Side) (k c : ℕ)
+    → tree code ≡ Some x → k < length (options x s) → k < length codes → tree c ≡ at (options_in (tree code) s) k
+    → Stand tree codes (take k (options x s)) → Stand tree (set codes k c) (take (k + 1) (options x s))
+stand_more tree code codes x s k c is lt room e h =
     let ms = options x s in
     let named : tree c ≡ Some (get_or ms k none) = e ∙ ap (λ o. at (options_in o s) k) is ∙ at_there ms k lt in
-    let many : length (xs ++ take k ms) ≡ from + k = length-append xs (take k ms) ∙ omega (arith, length-take-le k ms (omega arith)) in
-    let next : (xs ++ take k ms) ++ (get_or ms k none ∷ []) ≡ xs ++ take (k + 1) ms = append_assoc xs (take k ms) (get_or ms k none ∷ []) ∙ ap (λ l. xs ++ l) (sym (take_more ms k none lt)) in
-    subst (λ l. Stand tree (set codes (from + k) c) l) next (stand_push tree codes (xs ++ take k ms) (from + k) c (get_or ms k none) many room named h)
+    subst (λ l. Stand tree (set codes k c) l) (sym (take_more ms k none lt))
+    (stand_push tree codes (take k ms) k c (get_or ms k none) (length-take-le k ms (omega arith)) room named h)
+
+-- a part of the scratch, and the codes written in it, behind those that stand
+pub part_length : (codes : List ℕ) (n to : ℕ) → to ≤ length codes → length (take (to - n) (drop n codes)) ≡ to - n
+part_length codes n to room = omega (arith, length-take (to - n) (drop n codes), length-drop n codes)
+
+pub stand_behind : (tree : ℕ → Option Tree) (codes places : List ℕ) (xs ys : List Tree) (n k : ℕ) → length xs ≡ n → n ≤ length codes → length places ≡ length ys
+    → Stand tree codes xs → Stand tree places ys → Stand tree (put_mid n k codes places) (xs ++ ys)
+stand_behind tree codes places xs ys n k at room many h g j lt =
+    let front : length (take n codes) ≡ n = length-take-le n codes room in
+    let rest = post_of n k codes in
+    elim (dec_lt j n) [
+      | yes p ↦
+          ap tree (get_or_append_left (take n codes) (places ++ rest) 0 j (omega arith) ∙ get_or-take n codes j 0 p) ∙ h j (omega arith)
+          ∙ ap (λ z. Some z) (sym (get_or_append_left xs ys none j (omega arith)))
+      | no q ↦
+          let few : j - n < length ys = omega (arith, length-append xs ys) in
+          ap tree (get_or-append_right (take n codes) (places ++ rest) n j 0 front (omega arith) ∙ get_or_append_left places rest 0 (j - n) (omega arith)) ∙ g (j - n) few
+          ∙ ap (λ z. Some z) (sym (get_or-append_right xs ys n j none at (omega arith)))
+    ]
 
 -- midway: i rows are written, and n positions are found
 pub record Growing (tree : ℕ → Option Tree) (t : Tree) (i n : ℕ) (codes : List ℕ) (rows : List Shape) : Type 0 where
@@ -89,9 +100,9 @@ pub record Next (tree : ℕ → Option Tree) (t : Tree) (i n c : ℕ) (new : Sha
   pub here : i < first t i
   pub is : tree c ≡ Some (get_or (grown t i) i none)
   pub shape : new ≡ shape_of n (get_or (grown t i) i none)
-  pub lefts : new.lefts ≡ length (options (get_or (grown t i) i none) Left)
-  pub rights : new.rights ≡ length (options (get_or (grown t i) i none) Right)
-  pub wide : n + (new.lefts + new.rights) ≡ first t (suc i)
+  pub lefts : count_of new Left ≡ length (options (get_or (grown t i) i none) Left)
+  pub rights : count_of new Right ≡ length (options (get_or (grown t i) i none) Right)
+  pub wide : n + count_of new Left + count_of new Right ≡ first t (suc i)
 
 pub next_row : (tree : ℕ → Option Tree) (t : Tree) (i n : ℕ) (codes : List ℕ) (rows : List Shape) (new : Shape)
     → i < n → Growing tree t i n codes rows
@@ -102,8 +113,8 @@ next_row tree t i n codes rows new lt old answer =
     let here : i < first t i = omega (arith, old.there) in
     let is : tree (get_or codes i 0) ≡ Some x = old.standing i here in
     let shape : new ≡ shape_of n x = answer x is in
-    let lefts : new.lefts ≡ length (options x Left) = ap (λ (z : Shape). z.lefts) shape ∙ count_is n x Left in
-    let rights : new.rights ≡ length (options x Right) = ap (λ (z : Shape). z.rights) shape ∙ count_is n x Right in
+    let lefts : count_of new Left ≡ length (options x Left) = ap (λ (z : Shape). count_of z Left) shape ∙ count_is n x Left in
+    let rights : count_of new Right ≡ length (options x Right) = ap (λ (z : Shape). count_of z Right) shape ∙ count_is n x Right in
     record {
       here = here;
       is = is;
@@ -117,30 +128,49 @@ next_row tree t i n codes rows new lt old answer =
 pub grown_step : (tree : ℕ → Option Tree) (t : Tree) (i n : ℕ) (codes codes' codes'' : List ℕ) (rows : List Shape) (new : Shape)
     → i < n → i < length rows → Growing tree t i n codes rows
     → ((x : Tree) → tree (get_or codes i 0) ≡ Some x → new ≡ shape_of n x)
-    → ((x : Tree) (xs : List Tree) → tree (get_or codes i 0) ≡ Some x → new.lefts ≡ length (options x Left) → length xs ≡ n → Stand tree codes xs → Stand tree codes' (xs ++ options x Left))
-    → ((x : Tree) (xs : List Tree) → tree (get_or codes i 0) ≡ Some x → new.rights ≡ length (options x Right) → length xs ≡ n + new.lefts → Stand tree codes' xs → Stand tree codes'' (xs ++ options x Right))
-    → Growing tree t (i + 1) (n + (new.lefts + new.rights)) codes'' (set rows i new)
+    → ((x : Tree) (xs : List Tree) → tree (get_or codes i 0) ≡ Some x → count_of new Left ≡ length (options x Left) → length xs ≡ n → Stand tree codes xs → Stand tree codes' (xs ++ options x Left))
+    → ((x : Tree) (xs : List Tree) → tree (get_or codes i 0) ≡ Some x → count_of new Right ≡ length (options x Right) → length xs ≡ n + count_of new Left → Stand tree codes' xs → Stand tree codes'' (xs ++ options x Right))
+    → Growing tree t (i + 1) (n + count_of new Left + count_of new Right) codes'' (set rows i new)
 grown_step tree t i n codes codes' codes'' rows new lt room old answer left right =
     let x = get_or (grown t i) i none in
     let next = next_row tree t i n codes rows new lt old answer in
     let in_tree : first t i ≤ size t = within t i (omega (arith, next.here)) in
     let one_side = left x (grown t i) next.is next.lefts (sym old.there) old.standing in
-    let wide : length (grown t i ++ options x Left) ≡ n + new.lefts = length-append (grown t i) (options x Left) ∙ omega (arith, old.there, next.lefts) in
+    let wide : length (grown t i ++ options x Left) ≡ n + count_of new Left = length-append (grown t i) (options x Left) ∙ omega (arith, old.there, next.lefts) in
     let both = right x (grown t i ++ options x Left) next.is next.rights wide one_side in
     let all : (grown t i ++ options x Left) ++ options x Right ≡ grown t (suc i) = append_assoc (grown t i) (options x Left) (options x Right) ∙ sym (grown_next t i) in
     let up : suc i ≡ i + 1 = omega arith in
     record {
       begun = omega (arith, old.begun);
-      there = subst (λ j. n + (new.lefts + new.rights) ≡ first t j) up next.wide;
+      there = subst (λ j. n + count_of new Left + count_of new Right ≡ first t j) up next.wide;
       standing = subst (λ j. Stand tree codes'' (grown t j)) up (subst (λ xs. Stand tree codes'' xs) all both);
       done = one_more t i n rows new x room (kept t i i (omega (arith, next.here)) next.here) old.there next.shape old.done;
     }
+
+-- one row done that is not open: its shape is written, and no positions are found after it
+shut_count : (new : Shape) → ((x : Fork) → new ≡ Open x → ⊥) → (s : Side) → 0 ≡ count_of new s
+shut_count Unused shut s = refl
+shut_count (Ended v) shut s = refl
+shut_count (Open x) shut s = absurd (shut x refl)
+
+pub grown_shut : (tree : ℕ → Option Tree) (t : Tree) (i n : ℕ) (codes : List ℕ) (rows : List Shape) (new : Shape)
+    → i < n → i < length rows → Growing tree t i n codes rows
+    → ((x : Tree) → tree (get_or codes i 0) ≡ Some x → new ≡ shape_of n x)
+    → ((x : Fork) → new ≡ Open x → ⊥)
+    → Growing tree t (i + 1) n codes (set rows i new)
+grown_shut tree t i n codes rows new lt room old answer shut =
+    let same : n + count_of new Left + count_of new Right ≡ n = omega (arith, shut_count new shut Left, shut_count new shut Right) in
+    let still : (s : Side) (x : Tree) (xs : List Tree) → count_of new s ≡ length (options x s) → Stand tree codes xs → Stand tree codes (xs ++ options x s) =
+    λ s x xs many h. subst (λ l. Stand tree codes l) (sym (append-nil xs) ∙ ap (λ l. xs ++ l) (sym (nil_from_length (options x s) (sym (shut_count new shut s ∙ many))))) h in
+    subst (λ m. Growing tree t (i + 1) m codes (set rows i new)) same
+    (grown_step tree t i n codes codes codes rows new lt room old answer
+    (λ x xs is many wide h. still Left x xs many h) (λ x xs is many wide h. still Right x xs many h))
 
 -- more rows than are free: the tree has more positions
 pub grown_over : (tree : ℕ → Option Tree) (t : Tree) (i n free : ℕ) (codes : List ℕ) (rows : List Shape) (new : Shape)
     → i < n → Growing tree t i n codes rows
     → ((x : Tree) → tree (get_or codes i 0) ≡ Some x → new ≡ shape_of n x)
-    → free < n + (new.lefts + new.rights) → free < size t
+    → free < n + count_of new Left + count_of new Right → free < size t
 grown_over tree t i n free codes rows new lt old answer over =
     let next = next_row tree t i n codes rows new lt old answer in
     let most : first t (suc i) ≤ size t = within t (suc i) (omega (arith, next.wide)) in

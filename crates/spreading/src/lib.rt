@@ -6,4 +6,4 @@ mod breadth;
 mod shape;
 
 pub use breadth::{rows_in_order, spread, wipe};
-pub use shape::{BLANK, Kind, ROW_LIMIT, Shape};
+pub use shape::{BLANK, Fork, ROW_LIMIT, Shape};

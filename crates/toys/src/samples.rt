@@ -30,8 +30,7 @@ impl RuleSet for Samples {
         match (code, side) {
             (0, Side::Left) => 1,
             (0, Side::Right) => 2,
-            (3, _) => 1,
-            (4, _) => 1,
+            (3 | 4, _) => 1,
             _ => 0,
         }
     }

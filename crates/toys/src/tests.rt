@@ -14,8 +14,7 @@ fn judge<R: RuleSet>(rules: &R, code: u32, free: &mut [Shape]) -> Option<(usize,
     if !rules.known(code) {
         return None;
     }
-    let mut codes = [0; ROW_LIMIT];
-    let n = spread(rules, code, free, &mut codes)?;
+    let n = spread(rules, code, free)?;
     let high = too_high(&free[..n]);
     let cold = any_cold(&free[..n]);
     Some((n, high, cold))

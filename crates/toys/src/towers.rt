@@ -18,7 +18,7 @@ impl RuleSet for Towers {
     }
 
     fn score(&self, code: u32) -> Option<i16> {
-        if code == 0 { Some(0) } else { None }
+        (code == 0).then_some(0)
     }
 
     fn count(&self, code: u32, side: Side) -> u8 {
@@ -26,15 +26,10 @@ impl RuleSet for Towers {
     }
 
     fn option(&self, code: u32, side: Side, k: u8) -> Option<u32> {
-        if code == 0 {
-            return None;
-        }
         if k != 0 {
             return None;
         }
-        match side {
-            Side::Left => Some(code - 1),
-            Side::Right => Some(0),
-        }
+        let below = code.checked_sub(1)?;
+        Some(side.pick(below, 0))
     }
 }
