@@ -1,7 +1,7 @@
 -- Along a side's wall up to the temperature: what is written are the corners that draw it.
-use Rattle.std.proofs.Common.{◌≡◌, ℕ, suc, ◌+◌, ◌-◌, ◌<◌, ◌≤◌, min, Bool, true, false, cond, not, List, length, get_or, take, set, ℤ, pos, ◌+ℤ◌, ◌-ℤ◌, Some, None, sym, refl, ap, ◌∙◌, subst, inl, inr, arith}
-use Rattle.std.proofs.lemmas.List.Edits.{paste_none, paste_more}
-use Rattle.std.proofs.lemmas.List.{length-set, take-set-le}
+use Rattle.std.proofs.Common.{◌≡◌, ℕ, suc, ◌+◌, ◌-◌, ◌<◌, ◌≤◌, min, Bool, true, false, cond, not, List, ◌++◌, length, get_or, take, drop, set, ℤ, pos, ◌+ℤ◌, ◌-ℤ◌, Some, None, Option, sym, refl, ap, ◌∙◌, subst, inl, inr, arith}
+use Rattle.std.proofs.lemmas.List.Edits.{paste_more}
+use Rattle.std.proofs.lemmas.List.{length-set, append_assoc, drop-drop, take_at, length-take-le, length-drop}
 use Rattle.std.proofs.lemmas.Int.{ints}
 use Rattle.std.proofs.lemmas.Bool.{both_ways}
 use lib.Seq.{paste}
@@ -10,8 +10,11 @@ use Rattle.walls.specs.declared.corner.Trail.{Trail}
 use Rattle.walls.specs.declared.piece.Piece.{Piece}
 use Rattle.walls.specs.Pieces.{bit, climb, Linear}
 use Rattle.walls.specs.Turns.{turns, After, written}
-use Rattle.walls.proofs.Trails.{Cut, cut_none, cut_more, cut_all}
-use Rattle.thermographs.specs.Sweep.{cut, Draws, Fits, Wrote}
+use Rattle.walls.proofs.Trails.{Cut, cut_more, cut_all}
+use Rattle.thermographs.specs.declared.figures.Wall.{Wall}
+use Rattle.thermographs.specs.declared.strip.Strip.{Strip}
+use Rattle.thermographs.specs.Strips.{Wrote}
+use Rattle.thermographs.specs.Sweep.{cut, Draws}
 
 -- ---- the steps of the wall
 cut_below : (f : ℕ → ℤ) (m u : ℕ) → u ≤ m → cut f m u ≡ (f u -ℤ pos u)
@@ -48,58 +51,35 @@ still_step f m ds d u l =
     omega (arith, ints)
 
 -- ---- what is written
--- the first n corners stand from the place on
-pub record Traced (at : ℕ) (ds entry strip : List ℕ) (len : ℕ) (slope : Bool) (t : ℕ) : Type 0 where
-  pub n : ℕ
-  pub long : len ≡ at + n
-  pub out : strip ≡ paste entry at ds n
-  pub cuts : Cut ds n t slope
+-- the first corners stand in the places
+pub record Traced (ds entry : List ℕ) (trail : Trail) (t : ℕ) : Type 0 where
+  pub out : trail.places.now ≡ paste entry 0 ds trail.len
+  pub cuts : Cut ds trail.len t trail.slope
 
 -- what is known at t
-pub record Drawn (f : ℕ → ℤ) (m at : ℕ) (entry strip : List ℕ) (trail : Trail) (t : ℕ) : Type 0 where
+pub record Drawn (f : ℕ → ℤ) (m : ℕ) (entry : List ℕ) (trail : Trail) (t : ℕ) : Type 0 where
   pub low : t ≤ m
-  pub begun : at ≤ trail.len
-  pub room : trail.len ≤ length strip
-  pub same : length strip ≡ length entry
-  pub kept : take at strip ≡ take at entry
-  pub follows : (ds : List ℕ) → Ordered ds → Draws (cut f m) ds → Traced at ds entry strip trail.len trail.slope t
-
-pub drawn_none : (f : ℕ → ℤ) (m at : ℕ) (entry : List ℕ) (trail : Trail) → trail.len ≡ at → at ≤ length entry → Drawn f m at entry entry trail 0
-drawn_none f m at entry trail e l = record {
-  low = omega arith;
-  begun = omega arith;
-  room = omega arith;
-  same = refl;
-  kept = refl;
-  follows = λ ds o d. record { n = 0; long = omega arith; out = paste_none entry at ds; cuts = cut_none ds trail.slope };
-}
-
--- a corner stands behind what is kept
-kept_written : (b : Bool) (at len t : ℕ) (strip : List ℕ) → at ≤ len → take at (cond b (set strip len t) strip) ≡ take at strip
-kept_written true at len t strip l = take-set-le at strip len t l
-kept_written false at len t strip l = refl
+  pub same : length trail.places.now ≡ length entry
+  pub follows : (ds : List ℕ) → Ordered ds → Draws (cut f m) ds → Traced ds entry trail t
 
 same_written : (b : Bool) (len t : ℕ) (strip : List ℕ) → length (cond b (set strip len t) strip) ≡ length strip
 same_written true len t strip = length-set strip len t
 same_written false len t strip = refl
 
-long_next : (b : Bool) (at len k : ℕ) → at ≤ len → k ≡ cond b (len + 1) len → at ≤ k
-long_next true at len k l e = omega arith
-long_next false at len k l e = omega arith
-
 -- one corner more, where there is room
-paste_next : (at : ℕ) (ds entry strip : List ℕ) (len n t : ℕ) → len ≡ at + n → strip ≡ paste entry at ds n → n < length ds → get_or ds n 0 ≡ t → len < length strip → length strip ≡ length entry
-    → set strip len t ≡ paste entry at ds (n + 1)
-paste_next at ds entry strip len n t long out more at-t room same =
-    ap (λ (s : List ℕ). set s len t) out ∙ ap (λ (k : ℕ). set (paste entry at ds n) k t) long ∙ ap (λ (v : ℕ). set (paste entry at ds n) (at + n) v) (sym at-t)
-    ∙ paste_more entry at ds n 0 (omega arith) more
+paste_next : (ds entry strip : List ℕ) (n t : ℕ) → strip ≡ paste entry 0 ds n → n < length ds → get_or ds n 0 ≡ t → n < length strip → length strip ≡ length entry
+    → set strip n t ≡ paste entry 0 ds (n + 1)
+paste_next ds entry strip n t out more at-t room same =
+    let z : n ≡ 0 + n = omega arith in
+    ap (λ (s : List ℕ). set s n t) out ∙ ap (λ (k : ℕ). set (paste entry 0 ds n) k t) z ∙ ap (λ (v : ℕ). set (paste entry 0 ds n) (0 + n) v) (sym at-t)
+    ∙ paste_more entry 0 ds n 0 (omega arith) more
 
 -- the corner is written, or none is
-written_yes : (strip : List ℕ) (trail : Trail) (r : Bool) (t : ℕ) → turns trail.slope r t ≡ true → written strip trail r t ≡ set strip trail.len t
-written_yes strip trail r t e = ap (λ (b : Bool). cond b (set strip trail.len t) strip) e
+written_yes : (trail : Trail) (r : Bool) (t : ℕ) → turns trail.slope r t ≡ true → written trail r t ≡ set trail.places.now trail.len t
+written_yes trail r t e = ap (λ (b : Bool). cond b (set trail.places.now trail.len t) trail.places.now) e
 
-written_no : (strip : List ℕ) (trail : Trail) (r : Bool) (t : ℕ) → turns trail.slope r t ≡ false → written strip trail r t ≡ strip
-written_no strip trail r t e = ap (λ (b : Bool). cond b (set strip trail.len t) strip) e
+written_no : (trail : Trail) (r : Bool) (t : ℕ) → turns trail.slope r t ≡ false → written trail r t ≡ trail.places.now
+written_no trail r t e = ap (λ (b : Bool). cond b (set trail.places.now trail.len t) trail.places.now) e
 
 len_yes : (trail : Trail) (r : Bool) (t k : ℕ) → turns trail.slope r t ≡ true → k ≡ cond (turns trail.slope r t) (trail.len + 1) trail.len → k ≡ trail.len + 1
 len_yes trail r t k e h = h ∙ ap (λ (b : Bool). cond b (trail.len + 1) trail.len) e
@@ -107,82 +87,102 @@ len_yes trail r t k e h = h ∙ ap (λ (b : Bool). cond b (trail.len + 1) trail.
 len_no : (trail : Trail) (r : Bool) (t k : ℕ) → turns trail.slope r t ≡ false → k ≡ cond (turns trail.slope r t) (trail.len + 1) trail.len → k ≡ trail.len
 len_no trail r t k e h = h ∙ ap (λ (b : Bool). cond b (trail.len + 1) trail.len) e
 
-module _ (f : ℕ → ℤ) (m at : ℕ) (entry strip : List ℕ) (trail : Trail) (t : ℕ) (D : Drawn f m at entry strip trail t) where
+module _ (f : ℕ → ℤ) (m : ℕ) (entry : List ℕ) (trail : Trail) (t : ℕ) (D : Drawn f m entry trail t) where
+  wide : (next : Trail) (r : Bool) (v : ℕ) → next.places.now ≡ written trail r v → length next.places.now ≡ length entry
+  wide next r v out = ap length out ∙ same_written (turns trail.slope r v) trail.len v trail.places.now ∙ D.same
+
+  -- a corner more has room
+  fits : (next : Trail) (r : Bool) (v : ℕ) → next.places.now ≡ written trail r v → next.len ≡ trail.len + 1 → trail.len < length trail.places.now
+  fits next r v out n = omega (arith, wide next r v out, D.same, next.room)
+
   -- one straight part on
-  pub drawn_more : (p : Piece) (e : ℕ) (next : Trail) (strip' : List ℕ) → Linear f t p → t < e → e ≤ p.until → e ≤ m
-      → After trail (length strip) (not p.slope) t (Some next) → strip' ≡ written strip trail (not p.slope) t → Drawn f m at entry strip' next e
-  drawn_more p e next strip' lin te ep em (slope, len, room) out =
-      let b : Bool = turns trail.slope (not p.slope) t in
-      let wide : length strip' ≡ length strip = ap length out ∙ same_written b trail.len t strip in
-      record {
-        low = em;
-        begun = long_next b at trail.len next.len D.begun len;
-        room = omega arith;
-        same = wide ∙ D.same;
-        kept = ap (take at) out ∙ kept_written b at trail.len t strip D.begun ∙ D.kept;
-        follows = λ ds o d.
-            let T = D.follows ds o d in
-            elim (cut_more ds o T.n t e trail.slope (not p.slope) T.cuts te (straight_step f m ds d p t e lin ep em)) [
-              | inl w ↦
-                  let l = len_yes trail (not p.slope) t next.len w.0 len in
-                  record {
-                    n = T.n + 1;
-                    long = omega (arith, T.long);
-                    out = out ∙ written_yes strip trail (not p.slope) t w.0
-                        ∙ paste_next at ds entry strip trail.len T.n t T.long T.out w.1 w.2 (omega arith) D.same;
-                    cuts = subst (Cut ds (T.n + 1) e) (sym slope) w.3;
-                  }
-              | inr w ↦
-                  let l = len_no trail (not p.slope) t next.len w.0 len in
-                  record {
-                    n = T.n;
-                    long = omega (arith, T.long);
-                    out = out ∙ written_no strip trail (not p.slope) t w.0 ∙ T.out;
-                    cuts = subst (Cut ds T.n e) (sym slope) w.1;
-                  }
-            ];
-      }
+  pub drawn_more : (p : Piece) (e : ℕ) (next : Trail) → Linear f t p → t < e → e ≤ p.until → e ≤ m
+      → After trail (not p.slope) t (Some tt) next → next.places.now ≡ written trail (not p.slope) t → Drawn f m entry next e
+  drawn_more p e next lin te ep em (slope, len) out = record {
+    low = em;
+    same = wide next (not p.slope) t out;
+    follows = λ ds o d.
+        let T = D.follows ds o d in
+        elim (cut_more ds o trail.len t e trail.slope (not p.slope) T.cuts te (straight_step f m ds d p t e lin ep em)) [
+          | inl w ↦
+              let n = len_yes trail (not p.slope) t next.len w.0 len in
+              record {
+                out = out ∙ written_yes trail (not p.slope) t w.0
+                    ∙ paste_next ds entry trail.places.now trail.len t T.out w.1 w.2 (fits next (not p.slope) t out n) D.same ∙ ap (paste entry 0 ds) (sym n);
+                cuts = subst (λ (k : ℕ). Cut ds k e next.slope) (sym n) (subst (Cut ds (trail.len + 1) e) (sym slope) w.3);
+              }
+          | inr w ↦
+              let n = len_no trail (not p.slope) t next.len w.0 len in
+              record {
+                out = out ∙ written_no trail (not p.slope) t w.0 ∙ T.out ∙ ap (paste entry 0 ds) (sym n);
+                cuts = subst (λ (k : ℕ). Cut ds k e next.slope) (sym n) (subst (Cut ds trail.len e) (sym slope) w.1);
+              }
+        ];
+  }
 
   -- there is no room on the way
-  pub drawn_short : (p : Piece) (e : ℕ) (strip' : List ℕ) → Linear f t p → t < e → e ≤ p.until → e ≤ m
-      → After trail (length strip) (not p.slope) t None → (ds : List ℕ) → Ordered ds → Draws (cut f m) ds → Wrote at ds entry None strip'
-  drawn_short p e strip' lin te ep em (yes', full) ds o d =
+  pub drawn_short : (p : Piece) (e : ℕ) (next : Trail) → Linear f t p → t < e → e ≤ p.until → e ≤ m
+      → After trail (not p.slope) t None next → (ds : List ℕ) → Ordered ds → Draws (cut f m) ds → length entry < length ds
+  drawn_short p e next lin te ep em (yes', full, _, _) ds o d =
       let T = D.follows ds o d in
-      elim (cut_more ds o T.n t e trail.slope (not p.slope) T.cuts te (straight_step f m ds d p t e lin ep em)) [
-        | inl w ↦ omega (arith, T.long, D.same, w.1)
+      elim (cut_more ds o trail.len t e trail.slope (not p.slope) T.cuts te (straight_step f m ds d p t e lin ep em)) [
+        | inl w ↦ omega (arith, D.same, w.1)
         | inr w ↦ absurd (both_ways (turns trail.slope (not p.slope) t) w.0 yes')
       ]
 
-  -- what stands before the place stays
-  pub drawn_kept : (r : Bool) (v : ℕ) (strip' : List ℕ) → strip' ≡ written strip trail r v → take at strip' ≡ take at entry
-  drawn_kept r v strip' out = ap (take at) out ∙ kept_written (turns trail.slope r v) at trail.len v strip D.begun ∙ D.kept
-
-  pub drawn_fits : (r : Bool) (v : ℕ) (end : Trail) (strip' : List ℕ) → After trail (length strip) r v (Some end) → strip' ≡ written strip trail r v
-      → Fits at entry (Some end.len) strip'
-  drawn_fits r v end strip' (slope, len, room) out =
-      (drawn_kept r v strip' out, long_next (turns trail.slope r v) at trail.len end.len D.begun len, omega (arith, D.same))
-
   -- the end, at the temperature
-  pub drawn_all : (end : Trail) (strip' : List ℕ) → t ≡ m → After trail (length strip) false m (Some end) → strip' ≡ written strip trail false m
-      → (ds : List ℕ) → Ordered ds → Draws (cut f m) ds → Wrote at ds entry (Some end.len) strip'
-  drawn_all end strip' tm (slope, len, room) out ds o d =
+  pub drawn_all : (next : Trail) → t ≡ m → After trail false m (Some tt) next → next.places.now ≡ written trail false m
+      → (ds : List ℕ) → Ordered ds → Draws (cut f m) ds → (next.len ≡ length ds) × (next.places.now ≡ paste entry 0 ds (length ds)) × (next.len ≤ length entry)
+  drawn_all next tm (slope, len) out ds o d =
       let T = D.follows ds o d in
-      elim (cut_all ds o T.n m trail.slope (subst (λ (v : ℕ). Cut ds T.n v trail.slope) tm T.cuts) (still_step f m ds d)) [
+      elim (cut_all ds o trail.len m trail.slope (subst (λ (v : ℕ). Cut ds trail.len v trail.slope) tm T.cuts) (still_step f m ds d)) [
         | inl w ↦
-            let l = len_yes trail false m end.len w.0 len in (
-              omega (arith, T.long, w.3),
-              out ∙ written_yes strip trail false m w.0 ∙ paste_next at ds entry strip trail.len T.n m T.long T.out w.1 w.2 (omega arith) D.same
-                  ∙ ap (paste entry at ds) w.3,
+            let n = len_yes trail false m next.len w.0 len in (
+              omega (arith, w.3),
+              out ∙ written_yes trail false m w.0 ∙ paste_next ds entry trail.places.now trail.len m T.out w.1 w.2 (fits next false m out n) D.same
+                  ∙ ap (paste entry 0 ds) w.3,
+              omega (arith, wide next false m out, next.room),
             )
         | inr w ↦
-            let l = len_no trail false m end.len w.0 len in
-            (omega (arith, T.long, w.1), out ∙ written_no strip trail false m w.0 ∙ T.out ∙ ap (paste entry at ds) w.1)
+            let n = len_no trail false m next.len w.0 len in
+            (omega (arith, w.1), out ∙ written_no trail false m w.0 ∙ T.out ∙ ap (paste entry 0 ds) w.1, omega (arith, wide next false m out, next.room))
       ]
 
-  pub drawn_short_all : (strip' : List ℕ) → t ≡ m → After trail (length strip) false m None → (ds : List ℕ) → Ordered ds → Draws (cut f m) ds → Wrote at ds entry None strip'
-  drawn_short_all strip' tm (yes', full) ds o d =
+  pub drawn_short_all : (next : Trail) → t ≡ m → After trail false m None next → (ds : List ℕ) → Ordered ds → Draws (cut f m) ds → length entry < length ds
+  drawn_short_all next tm (yes', full, _, _) ds o d =
       let T = D.follows ds o d in
-      elim (cut_all ds o T.n m trail.slope (subst (λ (v : ℕ). Cut ds T.n v trail.slope) tm T.cuts) (still_step f m ds d)) [
-        | inl w ↦ omega (arith, T.long, D.same, w.1)
+      elim (cut_all ds o trail.len m trail.slope (subst (λ (v : ℕ). Cut ds trail.len v trail.slope) tm T.cuts) (still_step f m ds d)) [
+        | inl w ↦ omega (arith, D.same, w.1)
         | inr w ↦ absurd (both_ways (turns trail.slope false m) w.0 yes')
       ]
+
+-- a wall by its parts
+abbrev pub made_wall : ℤ → ℕ → ℕ → Wall
+made_wall s b n = record { start = s; begin = b; count = n }
+
+pub same_walls : (v w : Wall) → v.start ≡ w.start → v.begin ≡ w.begin → v.count ≡ w.count → v ≡ w
+same_walls v w p q r =
+    ap (λ (z : ℤ). made_wall z v.begin v.count) p ∙ ap (λ (z : ℕ). made_wall w.start z v.count) q ∙ ap (λ (z : ℕ). made_wall w.start w.begin z) r
+
+-- ---- the strip, whose free places the trail had
+module _ (old : Strip) (front free : List ℕ) (f : front ≡ take old.used old.places.now) (b : free ≡ drop old.used old.places.now) where
+  behind : (ds : List ℕ) → front ++ paste free 0 ds (length ds) ≡ paste old.places.now old.used ds (length ds)
+  behind ds =
+      let n : ℕ = length ds in
+      let e : drop (0 + n) free ≡ drop (old.used + n) old.places.now = ap (drop (0 + n)) b ∙ drop-drop (0 + n) old.used old.places.now ∙ ap (λ (k : ℕ). drop k old.places.now) (omega arith) in
+      sym (append_assoc front (take n ds) (drop (0 + n) free)) ∙ ap (λ (l : List ℕ). (l ++ take n ds) ++ drop (0 + n) free) f
+      ∙ ap (λ (l : List ℕ). (take old.used old.places.now ++ take n ds) ++ l) e
+
+  pub wrote_all : (start : ℤ) (w : Wall) (new : Strip) (free' : List ℕ) → new.places.now ≡ front ++ free' → (trail : Trail) → free' ≡ trail.places.now → (ds : List ℕ)
+      → (trail.len ≡ length ds) × (trail.places.now ≡ paste free 0 ds (length ds)) × (trail.len ≤ length free) → w.start ≡ start → w.begin ≡ old.used → w.count ≡ trail.len → new.used ≡ old.used + trail.len
+      → Wrote start ds old (Some w) new
+  wrote_all start w new free' out trail e ds (n, p, room) starts begins counts ends =
+      (same_walls w (made_wall start old.used (length ds)) starts begins (counts ∙ n), record { ends = ends ∙ ap (λ (k : ℕ). old.used + k) n; fits = omega (arith, ap length b, length-drop old.used old.places.now, old.room); out = out ∙ ap (λ (l : List ℕ). front ++ l) (e ∙ p) ∙ behind ds })
+
+  pub wrote_none : (start : ℤ) (r : Option Wall) (new : Strip) (free' : List ℕ) → new.places.now ≡ front ++ free' → r ≡ None → (ds : List ℕ) → length free < length ds → Wrote start ds old r new
+  wrote_none start r new free' out e ds many =
+      let n : length front ≡ old.used = ap length f ∙ length-take-le old.used old.places.now old.room in
+      subst (λ (o : Option Wall). Wrote start ds old o new) (sym e) (record {
+        many = omega (arith, ap length b, length-drop old.used old.places.now, old.room);
+        kept = ap (take old.used) out ∙ take_at front free' old.used n ∙ f;
+      })

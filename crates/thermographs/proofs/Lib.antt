@@ -2,9 +2,10 @@ pub mod Best
 pub mod Meet
 pub mod Draw
 pub mod Positions
+pub mod Growth
+pub mod Strips
 pub mod OpenRow
 pub mod Options
-pub mod Strips
 pub mod Pass
 pub mod Told
 pub mod Worked

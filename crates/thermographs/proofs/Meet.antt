@@ -4,8 +4,9 @@ use Rattle.std.proofs.lemmas.Int.{ints, clamps}
 use Rattle.std.proofs.lemmas.Bool.{cases_lt}
 use Rattle.terms.specs.declared.side.Side.{Side}
 use Rattle.theory.specs.Limits.{wall_limit}
-use Rattle.walls.specs.declared.piece.Piece.{Piece}
-use Rattle.walls.specs.Pieces.{climb, Linear, Tame, Ranged}
+use Rattle.walls.specs.declared.scaffold.Scaffolds.{Scaffolds}
+use Rattle.walls.specs.Pieces.{climb, Linear}
+use Rattle.walls.specs.Ranges.{Tame}
 use Rattle.walls.proofs.Straight.{linear_at}
 use Rattle.thermographs.specs.declared.figures.Figures.{Figures}
 use Rattle.thermographs.specs.Figures.{blank}
@@ -27,46 +28,43 @@ abbrev pub Apart : (ℕ → ℤ) → (ℕ → ℤ) → ℕ → Type 0
 Apart a b t = (u : ℕ) → u < t → pos (2 * u) <ℤ (a u +ℤ b u)
 
 -- so t is in range
-pub apart_low : (a b : ℕ → ℤ) (t : ℕ) → Tame a → Tame b → Apart a b t → t ≤ wall_limit
+apart_low : (a b : ℕ → ℤ) (t : ℕ) → Tame a → Tame b → Apart a b t → t ≤ wall_limit
 apart_low a b zero p q h = omega arith
 apart_low a b (suc t) p q h = let x = p t in let y = q t in let z = h t (omega arith) in omega (arith, ints)
 
+-- what is known at a tax
+pub record Swept (a b : ℕ → ℤ) (at : Scaffolds) : Type 0 where
+  pub ahead : (at.t < at.left.until) × (at.t < at.right.until)
+  pub left : Linear a at.t at.left
+  pub right : Linear b at.t at.right
+  pub apart : Apart a b at.t
+
 -- they stay apart up to e
-pub apart_more : (a b : ℕ → ℤ) (m n : Piece) (t e : ℕ) → Apart a b t → e ≤ m.until → e ≤ n.until → Linear a t m → Linear b t n
-    → ((j : ℕ) → t + j < e → pos (2 * (t + j)) <ℤ ((m.value +ℤ pos (climb m.slope j)) +ℤ (n.value +ℤ pos (climb n.slope j)))) → Apart a b e
-apart_more a b m n t e h em en la lb open' u l = elim (cases_lt u t) [
-  | inl g ↦ h u g
+apart_more : (a b : ℕ → ℤ) (at : Scaffolds) (e : ℕ) → Swept a b at → e ≤ at.left.until → e ≤ at.right.until
+    → ((j : ℕ) → at.t + j < e → pos (2 * (at.t + j)) <ℤ ((at.left.value +ℤ pos (climb at.left.slope j)) +ℤ (at.right.value +ℤ pos (climb at.right.slope j)))) → Apart a b e
+apart_more a b at e w el er open' u l = elim (cases_lt u at.t) [
+  | inl g ↦ w.apart u g
   | inr g ↦
-      let q : t + (u - t) ≡ u = omega arith in
-      let x = la (u - t) (omega arith) in
-      let y = lb (u - t) (omega arith) in
-      let z = open' (u - t) (omega arith) in
-      let w : pos (2 * (t + (u - t))) <ℤ (a (t + (u - t)) +ℤ b (t + (u - t))) = omega (arith, ints) in
-      subst (λ (v : ℕ). pos (2 * v) <ℤ (a v +ℤ b v)) q w
+      let q : at.t + (u - at.t) ≡ u = omega arith in
+      let x = w.left (u - at.t) (omega arith) in
+      let y = w.right (u - at.t) (omega arith) in
+      let z = open' (u - at.t) (omega arith) in
+      let h : pos (2 * (at.t + (u - at.t))) <ℤ (a (at.t + (u - at.t)) +ℤ b (at.t + (u - at.t))) = omega (arith, ints) in
+      subst (λ (v : ℕ). pos (2 * v) <ℤ (a v +ℤ b v)) q h
 ]
 
--- what is known at t
-pub record Swept (a b : ℕ → ℤ) (m n : Piece) (t : ℕ) : Type 0 where
-  pub m_ahead : t < m.until
-  pub n_ahead : t < n.until
-  pub m_ranged : Ranged m.value
-  pub n_ranged : Ranged n.value
-  pub m_linear : Linear a t m
-  pub n_linear : Linear b t n
-  pub low : t ≤ wall_limit
-  pub apart : Apart a b t
-
-pub swept_next : (a b : ℕ → ℤ) (m n : Piece) (t e : ℕ) → Tame a → Tame b → Swept a b m n t → e ≤ m.until → e ≤ n.until
-    → ((j : ℕ) → t + j < e → pos (2 * (t + j)) <ℤ ((m.value +ℤ pos (climb m.slope j)) +ℤ (n.value +ℤ pos (climb n.slope j))))
+-- and e is in range
+pub swept_next : (a b : ℕ → ℤ) (at : Scaffolds) (e : ℕ) → Tame a → Tame b → Swept a b at → e ≤ at.left.until → e ≤ at.right.until
+    → ((j : ℕ) → at.t + j < e → pos (2 * (at.t + j)) <ℤ ((at.left.value +ℤ pos (climb at.left.slope j)) +ℤ (at.right.value +ℤ pos (climb at.right.slope j))))
     → Apart a b e × (e ≤ wall_limit)
-swept_next a b m n t e p q w em en open' =
-    let h = apart_more a b m n t e w.apart em en w.m_linear w.n_linear open' in
+swept_next a b at e p q w el er open' =
+    let h = apart_more a b at e w el er open' in
     (h, apart_low a b e p q h)
 
 -- the end: they have met
-pub met_here : (a b : ℕ → ℤ) (m n : Piece) (t : ℕ) → Swept a b m n t → (m.value +ℤ n.value) ≤ℤ pos (2 * t)
-    → ((a t +ℤ b t) ≤ℤ pos (2 * t)) × ((m.value -ℤ pos t) ≡ (a t -ℤ pos t))
-met_here a b m n t w h =
-    let p = linear_at a t m (omega (arith, w.m_ahead)) w.m_linear in
-    let q = linear_at b t n (omega (arith, w.n_ahead)) w.n_linear in
+pub met_here : (a b : ℕ → ℤ) (at : Scaffolds) → Swept a b at → (at.left.value +ℤ at.right.value) ≤ℤ pos (2 * at.t)
+    → ((a at.t +ℤ b at.t) ≤ℤ pos (2 * at.t)) × ((at.left.value -ℤ pos at.t) ≡ (a at.t -ℤ pos at.t))
+met_here a b at w h =
+    let p = linear_at a at.t at.left (omega (arith, w.ahead.0)) w.left in
+    let q = linear_at b at.t at.right (omega (arith, w.ahead.1)) w.right in
     (omega (arith, ints), omega (arith, ints))

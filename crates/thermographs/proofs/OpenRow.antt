@@ -1,46 +1,32 @@
 -- An open position's row, from where its scaffolds meet and from its two walls' corners.
-use Rattle.std.proofs.Common.{◌≡◌, ℕ, ◌+◌, ◌-◌, ◌≤◌, List, [], ◌++◌, length, take, ℤ, pos, ◌*ℤ◌, Some, Option, sym, refl, ap, ◌∙◌, subst, arith, length-append}
-use Rattle.std.proofs.lemmas.List.Edits.{paste-paste, paste_none}
+use Rattle.std.proofs.Common.{◌≡◌, ℕ, List, [], ◌++◌, length, get_or, ℤ, pos, ◌*ℤ◌, Some, Option, sym, ap, ◌∙◌, subst, arith}
 use Rattle.std.proofs.lemmas.Int.{ints}
-use lib.Seq.{paste}
 use Rattle.terms.specs.declared.side.Side.TheVariants.{Left, Right}
 use Rattle.theory.specs.Limits.{unit}
-use Rattle.theory.specs.Trees.{Tree, Forest, ended, branch}
+use Rattle.theory.specs.Trees.{Tree, Forest, ended, branch, trees}
 use Rattle.theory.specs.Corners.{Ordered, corners_of}
 use Rattle.theory.proofs.Clauses.{ended_wall, ended_temperature, ended_mean, ended_corners}
 use Rattle.theory.proofs.Corners.{wall_corners}
 use Rattle.theory.proofs.Range.{figures_fit_lem, wall_bound}
-use Rattle.walls.specs.Pieces.{Ranged}
+use Rattle.spreading.specs.Order.{none}
+use Rattle.walls.specs.Ranges.{Ranged}
 use Rattle.thermographs.specs.declared.figures.Wall.{Wall}
 use Rattle.thermographs.specs.declared.figures.Figures.{Figures}
+use Rattle.thermographs.specs.declared.strip.Strip.{Strip}
 use Rattle.thermographs.specs.declared.sweep.Meeting.{Meeting}
-use Rattle.thermographs.specs.Figures.{both_corners, figures_of}
+use Rattle.thermographs.specs.Figures.{blank, both_corners, figures_of}
 use Rattle.thermographs.specs.Near.{best}
-use Rattle.thermographs.specs.Rows.{OpenReady, RowInto}
-use Rattle.thermographs.specs.Sweep.{Meets, cut, Draws, Wrote}
+use Rattle.thermographs.specs.Rows.{Tell, OpenReady, RowInto}
+use Rattle.thermographs.specs.Strips.{told, Grown, Full, Wrote}
+use Rattle.thermographs.specs.Sweep.{Meets, cut, Draws}
+use Rattle.thermographs.proofs.Draw.{made_wall, same_walls}
+use Rattle.thermographs.proofs.Growth.{grown_none, kept_grown, both_grown, full_behind}
 use Rattle.thermographs.proofs.Positions.{heat_is, mean_here, left_draws, right_draws, left_start, right_start}
-
-pub corners_are : (x : Tree) → both_corners x ≡ corners_of x Left ++ corners_of x Right
-unfolding both_corners
-corners_are x = refl
-
-pub corners_many : (x : Tree) → length (both_corners x) ≡ length (corners_of x Left) + length (corners_of x Right)
-corners_many x = ap length (corners_are x) ∙ length-append (corners_of x Left) (corners_of x Right)
-
--- a part from the start, as the code cuts it out
-pub from_zero : {A : Type 0} (n : ℕ) (l : List A) → take (n - 0) l ≡ take n l
-from_zero n l = let z : n - 0 ≡ n = omega arith in ap (λ (k : ℕ). take k l) z
+use Rattle.thermographs.proofs.Strips.{corners_are, corners_many, tells_more}
 
 -- figures by their parts
-abbrev made_wall : ℤ → ℕ → ℕ → Wall
-made_wall s b n = record { start = s; begin = b; count = n }
-
 abbrev made : ℤ → ℕ → Wall → Wall → Figures
 made m t l r = record { mean = m; temperature = t; left = l; right = r }
-
-same_walls : (v w : Wall) → v.start ≡ w.start → v.begin ≡ w.begin → v.count ≡ w.count → v ≡ w
-same_walls v w p q r =
-    ap (λ (z : ℤ). made_wall z v.begin v.count) p ∙ ap (λ (z : ℕ). made_wall w.start z v.count) q ∙ ap (λ (z : ℕ). made_wall w.start w.begin z) r
 
 pub same_figures : (f g : Figures) → f.mean ≡ g.mean → f.temperature ≡ g.temperature
     → f.left.start ≡ g.left.start → f.left.begin ≡ g.left.begin → f.left.count ≡ g.left.count
@@ -61,48 +47,61 @@ ended_figures v used f a b c d e h i j =
     same_figures f (figures_of used (ended v)) (a ∙ sym (ended_mean v)) (b ∙ sym (ended_temperature v)) (c ∙ sym (ended_wall v Left 0)) d (e ∙ sym (ap length l))
     (let w = ended_wall v Right 0 in omega (arith, ints)) (omega (arith, ap length l)) (j ∙ sym (ap length r))
 
-pub ended_row : (v : ℤ) (used : ℕ) (f : Figures) (strip : List ℕ) → f ≡ figures_of used (ended v) → used ≤ length strip → RowInto used (ended v) strip (Some f) strip
-ended_row v used f strip e room =
+pub ended_row : (v : ℤ) (s : Strip) (f : Figures) → f ≡ figures_of s.used (ended v) → RowInto (ended v) s (Some f) s
+ended_row v s f e =
     let none : both_corners (ended v) ≡ [] = corners_are (ended v) ∙ ap (λ (l : List ℕ). l ++ corners_of (ended v) Right) (ended_corners v Left) ∙ ended_corners v Right in
-    (e, omega (arith, ap length none), paste_none strip used [] ∙ ap (λ (l : List ℕ). paste strip used l (length l)) (sym none))
+    (e, subst (λ (l : List ℕ). Grown l s s) (sym none) (grown_none s))
 
-module _ (used : ℕ) (entry : List ℕ) (lefts rights : List Figures) (r : Meeting)
-    (M : Meets (best Left (take used entry) lefts) (best Right (take used entry) rights) r)
-    (L R : Forest) (O : OpenReady (take used entry) lefts rights L R) where
+-- what a strip told it tells when it has grown
+tell_grown : (ds : List ℕ) (old new : Strip) (fs : List Figures) (xs : List Tree) → Grown ds old new → Tell (told old) fs xs → Tell (told new) fs xs
+tell_grown ds old new fs xs g h = record {
+  many = h.many;
+  each = λ k l. tells_more old.used new.used old.places.now new.places.now (get_or fs k blank) (get_or xs k none) (omega (arith, g.ends)) new.room (kept_grown ds old new g) (h.each k l);
+}
+
+module _ (old : Strip) (lefts rights : List Figures) (L R : Forest) (O : OpenReady (told old) lefts rights L R)
+    (r : Meeting) (M : Meets (best Left (told old) lefts) (best Right (told old) rights) r) where
   pub mean_ranged : Ranged r.mean
-  mean_ranged = let e = mean_here (take used entry) lefts rights L R O r M in let b = (figures_fit_lem (branch L R) O.fair).means in (omega (arith, ints), omega (arith, ints))
+  mean_ranged = let e = mean_here (told old) lefts rights L R O r M in let b = (figures_fit_lem (branch L R) O.fair).means in (omega (arith, ints), omega (arith, ints))
 
   pub left_ranged : Ranged r.left
-  left_ranged = let e = left_start (take used entry) lefts rights L R O r M in let b = wall_bound (branch L R) O.fair Left 0 in (omega (arith, ints), omega (arith, ints))
+  left_ranged = let e = left_start (told old) lefts rights L R O r M in let b = wall_bound (branch L R) O.fair Left 0 in (omega (arith, ints), omega (arith, ints))
 
   pub right_ranged : Ranged r.right
-  right_ranged = let e = right_start (take used entry) lefts rights L R O r M in let b = wall_bound (branch L R) O.fair Right 0 in (omega (arith, ints), omega (arith, ints))
+  right_ranged = let e = right_start (told old) lefts rights L R O r M in let b = wall_bound (branch L R) O.fair Right 0 in (omega (arith, ints), omega (arith, ints))
 
-  module _ (o : Option ℕ) (one : List ℕ)
-      (W : (ds : List ℕ) → Ordered ds → Draws (cut (best Left (take used entry) lefts) r.temperature) ds → Wrote used ds entry o one) where
-    pub left_wrote : Wrote used (corners_of (branch L R) Left) entry o one
-    left_wrote = W (corners_of (branch L R) Left) (wall_corners (branch L R) Left).ordered (left_draws (take used entry) lefts rights L R O r M)
+  -- the left wall
+  module _ (start : ℤ) (o : Option Wall) (mid : Strip) (W : (ds : List ℕ) → Ordered ds → Draws (cut (best Left (told old) lefts) r.temperature) ds → Wrote start ds old o mid) where
+    pub left_wrote : Wrote start (corners_of (branch L R) Left) old o mid
+    left_wrote =
+        W (corners_of (branch L R) Left) (wall_corners (branch L R) Left).ordered (left_draws (told old) lefts rights L R O r.temperature (heat_is (told old) lefts rights L R O r M))
 
-  module _ (at : ℕ) (o : Option ℕ) (one two : List ℕ) (kept : take used one ≡ take used entry)
-      (W : (ds : List ℕ) → Ordered ds → Draws (cut (best Right (take used one) rights) r.temperature) ds → Wrote at ds one o two) where
-    pub right_wrote : Wrote at (corners_of (branch L R) Right) one o two
-    right_wrote =
-        W (corners_of (branch L R) Right) (wall_corners (branch L R) Right).ordered
-        (subst (λ (s : List ℕ). Draws (cut (best Right s rights) r.temperature) (corners_of (branch L R) Right)) (sym kept) (right_draws (take used entry) lefts rights L R O r M))
+  -- the right one, behind it
+  module _ (mid : Strip) (G : Grown (corners_of (branch L R) Left) old mid) where
+    pub still_ready : OpenReady (told mid) lefts rights L R
+    still_ready = record { fair = O.fair; left = tell_grown _ old mid lefts (trees L) G O.left; right = tell_grown _ old mid rights (trees R) G O.right }
 
-  -- all is written
-  pub open_row : (f : Figures) (one two : List ℕ) (mid end : ℕ) → used ≤ length entry → length one ≡ length entry → end ≤ length one
-      → Wrote used (corners_of (branch L R) Left) entry (Some mid) one → Wrote mid (corners_of (branch L R) Right) one (Some end) two
-      → f.mean ≡ r.mean → f.temperature ≡ r.temperature → f.left.start ≡ r.left → f.left.begin ≡ used → f.left.count ≡ mid - used
-      → f.right.start ≡ r.right → f.right.begin ≡ mid → f.right.count ≡ end - mid → RowInto used (branch L R) entry (Some f) two
-  open_row f one two mid end room same fits (l, lw) (n, nw) a b c d e h i j =
-      let many = corners_many (branch L R) in (
-        same_figures f (figures_of used (branch L R)) (a ∙ mean_here (take used entry) lefts rights L R O r M) (b ∙ sym (heat_is (take used entry) lefts rights L R O r M))
-            (c ∙ left_start (take used entry) lefts rights L R O r M) d (omega arith) (h ∙ right_start (take used entry) lefts rights L R O r M) (omega arith) (omega arith),
-        omega arith,
-        nw ∙ ap (λ (s : List ℕ). paste s mid (corners_of (branch L R) Right) (length (corners_of (branch L R) Right))) lw
-            ∙ ap (λ (k : ℕ). paste (paste entry used (corners_of (branch L R) Left) (length (corners_of (branch L R) Left))) k (corners_of (branch L R) Right) (length (corners_of (branch L R) Right))) l
-            ∙ paste-paste entry used (corners_of (branch L R) Left) (corners_of (branch L R) Right) (length (corners_of (branch L R) Left)) (length (corners_of (branch L R) Right)) refl refl room
-            ∙ ap (λ (k : ℕ). paste entry used (corners_of (branch L R) Left ++ corners_of (branch L R) Right) k) (sym many)
-            ∙ ap (λ (s : List ℕ). paste entry used s (length (both_corners (branch L R)))) (sym (corners_are (branch L R))),
-      )
+    module _ (start : ℤ) (o : Option Wall) (new : Strip) (W : (ds : List ℕ) → Ordered ds → Draws (cut (best Right (told mid) rights) r.temperature) ds → Wrote start ds mid o new) where
+      pub right_wrote : Wrote start (corners_of (branch L R) Right) mid o new
+      right_wrote =
+          W (corners_of (branch L R) Right) (wall_corners (branch L R) Right).ordered (right_draws (told mid) lefts rights L R still_ready r.temperature (heat_is (told old) lefts rights L R O r M))
+
+    -- there is no room for it
+    pub right_full : (new : Strip) → Full (corners_of (branch L R) Right) mid new → Full (both_corners (branch L R)) old new
+    right_full new F =
+        subst (λ (l : List ℕ). Full l old new) (sym (corners_are (branch L R))) (full_behind (corners_of (branch L R) Left) old mid G (corners_of (branch L R) Right) new F)
+
+    -- all is written
+    pub open_row : (f : Figures) (new : Strip) → Grown (corners_of (branch L R) Right) mid new → f.mean ≡ r.mean → f.temperature ≡ r.temperature
+        → f.left ≡ made_wall r.left old.used (length (corners_of (branch L R) Left)) → f.right ≡ made_wall r.right mid.used (length (corners_of (branch L R) Right))
+        → RowInto (branch L R) old (Some f) new
+    open_row f new H a b c d = (
+      same_figures f (figures_of old.used (branch L R)) (a ∙ mean_here (told old) lefts rights L R O r M) (b ∙ sym (heat_is (told old) lefts rights L R O r M))
+          (ap (λ (w : Wall). w.start) c ∙ left_start (told old) lefts rights L R O r M) (ap (λ (w : Wall). w.begin) c) (ap (λ (w : Wall). w.count) c)
+          (ap (λ (w : Wall). w.start) d ∙ right_start (told old) lefts rights L R O r M) (ap (λ (w : Wall). w.begin) d ∙ G.ends) (ap (λ (w : Wall). w.count) d),
+      subst (λ (l : List ℕ). Grown l old new) (sym (corners_are (branch L R))) (both_grown (corners_of (branch L R) Left) old mid G (corners_of (branch L R) Right) new H),
+    )
+
+-- there is no room for the left wall
+pub left_full : (L R : Forest) (old new : Strip) → Full (corners_of (branch L R) Left) old new → Full (both_corners (branch L R)) old new
+left_full L R old new F = record { many = omega (arith, F.many, corners_many (branch L R)); kept = F.kept }

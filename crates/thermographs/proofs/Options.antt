@@ -1,12 +1,13 @@
 -- A row's options among the figures of all rows.
-use Rattle.std.proofs.Common.{◌≡◌, ℕ, ◌+◌, ◌-◌, ◌<◌, ◌≤◌, List, length, get_or, take, drop, sym, refl, ap, ◌∙◌, subst, arith}
+use Rattle.std.proofs.Common.{◌≡◌, ℕ, ◌+◌, ◌-◌, ◌<◌, ◌≤◌, List, length, get_or, take, drop, ℤ, pos, sym, refl, ap, ◌∙◌, subst, arith}
 use Rattle.std.proofs.lemmas.List.{get_or-take, get_or-drop, length-take-le, length-drop}
 use Rattle.terms.specs.declared.side.Side.TheVariants.{Left, Right}
 use Rattle.theory.specs.Trees.{Tree, Forest, ended, branch, trees, Score}
 use Rattle.spreading.specs.Order.{none}
-use Rattle.spreading.specs.Shapes.{start_of, count_of}
+use Rattle.spreading.specs.Shapes.{start_of, count_of, end_of}
+use Rattle.spreading.specs.declared.shape.Fork.{Fork}
 use Rattle.spreading.specs.declared.shape.Shape.{Shape}
-use Rattle.spreading.specs.declared.shape.Kind.TheVariants.{Ended, Open}
+use Rattle.spreading.specs.declared.shape.Shape.TheVariants.{Ended, Open}
 use Rattle.thermographs.specs.declared.figures.Figures.{Figures}
 use Rattle.thermographs.specs.Figures.{blank, Tells}
 use Rattle.thermographs.specs.Rows.{Tell, OpenReady, Ready}
@@ -24,16 +25,16 @@ part_tell corners figures from to xs ends room h =
     }
 
 -- an open row
-pub ready_open : (corners : List ℕ) (figures : List Figures) (shape : Shape) (f : ℕ) (x : Tree) → Ready corners figures shape f x → shape.kind ≡ Open
-    → (from mid to : ℕ) → from ≡ start_of shape Left → mid ≡ start_of shape Right → to ≡ mid + count_of shape Right → to ≤ length figures
+pub ready_open : (corners : List ℕ) (figures : List Figures) (fork : Fork) (f : ℕ) (x : Tree) → Ready corners figures (Open fork) f x
+    → (from mid to : ℕ) → from ≡ start_of (Open fork) Left → mid ≡ start_of (Open fork) Right → to ≡ end_of (Open fork) → to ≤ length figures
     → (L : Forest) × (R : Forest) × (x ≡ branch L R) × OpenReady corners (take (mid - from) (drop from figures)) (take (to - mid) (drop mid figures)) L R
-ready_open corners figures shape f (ended v) h is from mid to a b c room =
-    let q : shape.kind ≡ Ended = ap (λ (z : Shape). z.kind) h.shaped in
+ready_open corners figures fork f (ended v) h from mid to a b c room =
+    let shaped = h.shaped in
     let z : ◌≡◌ {A = ℕ} 0 1 = cc in
     absurd (omega arith)
-ready_open corners figures shape f (branch L R) h is from mid to a b c room =
-    let l : shape.lefts ≡ length (trees L) = ap (λ (z : Shape). z.lefts) h.shaped in
-    let r : shape.rights ≡ length (trees R) = ap (λ (z : Shape). z.rights) h.shaped in (
+ready_open corners figures fork f (branch L R) h from mid to a b c room =
+    let l : fork.lefts ≡ length (trees L) = ap (λ (z : Shape). count_of z Left) h.shaped in
+    let r : fork.rights ≡ length (trees R) = ap (λ (z : Shape). count_of z Right) h.shaped in (
       L,
       R,
       refl,
@@ -47,9 +48,15 @@ ready_open corners figures shape f (branch L R) h is from mid to a b c room =
     )
 
 -- an ended one
-pub ready_ended : (corners : List ℕ) (figures : List Figures) (shape : Shape) (f : ℕ) (x : Tree) → Ready corners figures shape f x → (shape.kind ≡ Open → ⊥)
-    → (x ≡ ended shape.score) × Score shape.score
-ready_ended corners figures shape f (ended v) h no-open =
-    let e : shape.score ≡ v = ap (λ (z : Shape). z.score) h.shaped in
+abbrev score_of : Shape → ℤ
+score_of (Ended v) = v
+score_of _ = pos 0
+
+pub ready_ended : (corners : List ℕ) (figures : List Figures) (v : ℤ) (f : ℕ) (x : Tree) → Ready corners figures (Ended v) f x → (x ≡ ended v) × Score v
+ready_ended corners figures v f (ended w) h =
+    let e : v ≡ w = ap score_of h.shaped in
     (ap ended (sym e), subst Score (sym e) h.fair.scores)
-ready_ended corners figures shape f (branch L R) h no-open = absurd (no-open (ap (λ (z : Shape). z.kind) h.shaped))
+ready_ended corners figures v f (branch L R) h =
+    let shaped = h.shaped in
+    let z : ◌≡◌ {A = ℕ} 0 1 = cc in
+    absurd (omega arith)

@@ -20,7 +20,7 @@ use Rattle.spreading.proofs.Everywhere.{Each, each_one, each_cons}
 use Rattle.thermographs.specs.declared.figures.Figures.{Figures}
 use Rattle.thermographs.specs.declared.sweep.Meeting.{Meeting}
 use Rattle.thermographs.specs.Figures.{blank, wall_of, run, Tells}
-use Rattle.thermographs.specs.Near.{near, best, SoundNear}
+use Rattle.thermographs.specs.Near.{near, best, SoundNear, Sound}
 use Rattle.thermographs.specs.Rows.{Tell, OpenReady}
 use Rattle.thermographs.specs.Sweep.{Meets, cut, Draws}
 use Rattle.thermographs.proofs.Best.{best_one, best_cons}
@@ -93,23 +93,51 @@ best_is (more x F) s corners (f ∷ fs) h fair u =
 
 -- ---- an open position
 module _ (corners : List ℕ) (lefts rights : List Figures) (L R : Forest) (O : OpenReady corners lefts rights L R) where
-  pub left_near : (k : ℕ) → k < length lefts → SoundNear Left corners (get_or lefts k blank)
+  left_near : (k : ℕ) → k < length lefts → SoundNear Left corners (get_or lefts k blank)
   left_near k l = let m : k < length (trees L) = omega (arith, O.left.many) in sound_near Left corners (get_or lefts k blank) (get_or (trees L) k none) (O.left.each k m) (left_fair L R O.fair k m)
 
-  pub right_near : (k : ℕ) → k < length rights → SoundNear Right corners (get_or rights k blank)
+  right_near : (k : ℕ) → k < length rights → SoundNear Right corners (get_or rights k blank)
   right_near k l = let m : k < length (trees R) = omega (arith, O.right.many) in sound_near Right corners (get_or rights k blank) (get_or (trees R) k none) (O.right.each k m) (right_fair L R O.fair k m)
 
-  pub some_left : 0 < length lefts
-  some_left = omega (arith, O.left.many, some_tree L)
+  pub left_sound : Sound Left corners lefts
+  left_sound = record { some = omega (arith, O.left.many, some_tree L); each = left_near }
 
-  pub some_right : 0 < length rights
-  some_right = omega (arith, O.right.many, some_tree R)
+  pub right_sound : Sound Right corners rights
+  right_sound = record { some = omega (arith, O.right.many, some_tree R); each = right_near }
 
   left_best : (u : ℕ) → best Left corners lefts u ≡ (scaffold L Left u +ℤ pos u)
   left_best u = best_is L Left corners lefts O.left (left_fair L R O.fair) u
 
   right_best : (u : ℕ) → best Right corners rights u ≡ (scaffold R Right u +ℤ pos u)
   right_best u = best_is R Right corners rights O.right (right_fair L R O.fair) u
+
+  -- the walls are the scaffolds, cut at the temperature
+  module _ (m : ℕ) (heat : temperature (branch L R) ≡ m) where
+    left_cut : (u : ℕ) → cut (best Left corners lefts) m u ≡ wall (branch L R) Left u
+    left_cut u =
+        let a = left_best (min u m) in
+        let w : wall (branch L R) Left u ≡ scaffold L Left (min u m) = open_wall L R Left u ∙ ap (λ (k : ℕ). scaffold L Left (min u k)) heat in
+        omega (arith, ints)
+
+    right_cut : (u : ℕ) → cut (best Right corners rights) m u ≡ wall (branch L R) Right u
+    right_cut u =
+        let a = right_best (min u m) in
+        let w : wall (branch L R) Right u ≡ scaffold R Right (min u m) = open_wall L R Right u ∙ ap (λ (k : ℕ). scaffold R Right (min u k)) heat in
+        omega (arith, ints)
+
+    pub left_draws : Draws (cut (best Left corners lefts) m) (corners_of (branch L R) Left)
+    left_draws u =
+        let d = steps_draw (wall (branch L R) Left) (corners_of (branch L R) Left) (wall_steps (branch L R) Left O.fair) u in
+        let a = left_cut u in
+        let z = left_cut 0 in
+        omega (arith, ints)
+
+    pub right_draws : Draws (cut (best Right corners rights) m) (corners_of (branch L R) Right)
+    right_draws u =
+        let d = steps_draw (wall (branch L R) Right) (corners_of (branch L R) Right) (wall_steps (branch L R) Right O.fair) u in
+        let a = right_cut u in
+        let z = right_cut 0 in
+        omega (arith, ints)
 
   module _ (r : Meeting) (M : Meets (best Left corners lefts) (best Right corners rights) r) where
     pub heat_is : temperature (branch L R) ≡ r.temperature
@@ -124,36 +152,9 @@ module _ (corners : List ℕ) (lefts rights : List Figures) (L R : Forest) (O : 
         let e : scaffold L Left r.temperature ≡ mean (branch L R) = sym (mean_is L R ∙ ap (scaffold L Left) heat_is) in
         omega (arith, ints)
 
-    -- the walls are the scaffolds, cut
-    left_cut : (u : ℕ) → cut (best Left corners lefts) r.temperature u ≡ wall (branch L R) Left u
-    left_cut u =
-        let a = left_best (min u r.temperature) in
-        let w : wall (branch L R) Left u ≡ scaffold L Left (min u r.temperature) = open_wall L R Left u ∙ ap (λ (m : ℕ). scaffold L Left (min u m)) heat_is in
-        omega (arith, ints)
-
-    right_cut : (u : ℕ) → cut (best Right corners rights) r.temperature u ≡ wall (branch L R) Right u
-    right_cut u =
-        let a = right_best (min u r.temperature) in
-        let w : wall (branch L R) Right u ≡ scaffold R Right (min u r.temperature) = open_wall L R Right u ∙ ap (λ (m : ℕ). scaffold R Right (min u m)) heat_is in
-        omega (arith, ints)
-
-    pub left_draws : Draws (cut (best Left corners lefts) r.temperature) (corners_of (branch L R) Left)
-    left_draws u =
-        let d = steps_draw (wall (branch L R) Left) (corners_of (branch L R) Left) (wall_steps (branch L R) Left O.fair) u in
-        let a = left_cut u in
-        let z = left_cut 0 in
-        omega (arith, ints)
-
-    pub right_draws : Draws (cut (best Right corners rights) r.temperature) (corners_of (branch L R) Right)
-    right_draws u =
-        let d = steps_draw (wall (branch L R) Right) (corners_of (branch L R) Right) (wall_steps (branch L R) Right O.fair) u in
-        let a = right_cut u in
-        let z = right_cut 0 in
-        omega (arith, ints)
-
     pub left_start : r.left ≡ wall (branch L R) Left 0
     left_start =
-        let z = left_cut 0 in
+        let z = left_cut r.temperature heat_is 0 in
         let p : min 0 r.temperature ≡ 0 = omega arith in
         let q : cut (best Left corners lefts) r.temperature 0 ≡ (best Left corners lefts 0 -ℤ pos 0) = ap (λ (v : ℕ). best Left corners lefts v -ℤ pos v) p in
         let m = M.left in
@@ -161,7 +162,7 @@ module _ (corners : List ℕ) (lefts rights : List Figures) (L R : Forest) (O : 
 
     pub right_start : r.right ≡ neg_ℤ (wall (branch L R) Right 0)
     right_start =
-        let z = right_cut 0 in
+        let z = right_cut r.temperature heat_is 0 in
         let p : min 0 r.temperature ≡ 0 = omega arith in
         let q : cut (best Right corners rights) r.temperature 0 ≡ (best Right corners rights 0 -ℤ pos 0) = ap (λ (v : ℕ). best Right corners rights v -ℤ pos v) p in
         let m = M.right in

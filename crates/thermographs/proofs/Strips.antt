@@ -1,6 +1,5 @@
 -- Strips: the corners of rows one behind another, and a row's figures in them.
 use Rattle.std.proofs.Common.{◌≡◌, ℕ, zero, suc, ◌+◌, ◌-◌, ◌<◌, ◌≤◌, List, [], ◌∷◌, ◌++◌, length, get_or, take, drop, sym, refl, ap, ◌∙◌, subst, arith, length-append, drop-cons}
-use Rattle.std.proofs.lemmas.List.FromFn.{length-map-range_with_len, get_or-map-range_with_len}
 use Rattle.std.proofs.lemmas.List.Edits.{take-paste}
 use Rattle.std.proofs.lemmas.List.{append-nil, append_assoc, drop_at, take_at, take_all, take-take, length-take-le, length-take}
 use Rattle.std.proofs.lemmas.Slice.{between_is}
@@ -8,14 +7,20 @@ use Rattle.std.specs.List.{between}
 use lib.Seq.{paste}
 use Rattle.terms.specs.declared.side.Side.{Side}
 use Rattle.terms.specs.declared.side.Side.TheVariants.{Left, Right}
-use Rattle.theory.specs.Trees.{Tree, size}
+use Rattle.theory.specs.Trees.{Tree}
 use Rattle.spreading.proofs.Rows.{length_positions}
 use Rattle.theory.specs.Corners.{corners_of}
 use Rattle.spreading.specs.Order.{none, positions, row}
 use Rattle.thermographs.specs.declared.figures.Figures.{Figures}
-use Rattle.thermographs.specs.Figures.{both_corners, strip, before, figures_of, figures_at, figures_rows, wall_of, run, Tells}
+use Rattle.thermographs.specs.Figures.{both_corners, strip, before, figures_of, figures_at, wall_of, run, Tells}
 use Rattle.thermographs.specs.Laws.{FiguresTell}
-use Rattle.thermographs.proofs.OpenRow.{corners_are, corners_many}
+
+pub corners_are : (x : Tree) → both_corners x ≡ corners_of x Left ++ corners_of x Right
+unfolding both_corners
+corners_are x = refl
+
+pub corners_many : (x : Tree) → length (both_corners x) ≡ length (corners_of x Left) + length (corners_of x Right)
+corners_many x = ap length (corners_are x) ∙ length-append (corners_of x Left) (corners_of x Right)
 
 strip_none : strip [] ≡ []
 unfolding strip
@@ -112,12 +117,3 @@ figures_tell t i lt front back =
     ap (λ (l : List ℕ). front ++ (l ++ back)) whole ∙ regroup front (strip (drop (suc i) xs)) (both_corners (row t i)) rest back in
     subst (λ (l : List ℕ). Tells l (figures_at t (length front) i) (row t i)) (sym all)
     (tells_new (length front + before t i) (front ++ strip (drop (suc i) xs)) (rest ++ back) (row t i) (length-append front (strip (drop (suc i) xs))))
-
--- ---- the figures of a tree's rows, as a list and one by one
-pub length_rows : (t : Tree) (used : ℕ) → length (figures_rows t used) ≡ size t
-unfolding figures_rows
-length_rows t used = length-map-range_with_len (figures_at t used) 0 (size t)
-
-pub get_d_rows : (t : Tree) (used k : ℕ) (d : Figures) → k < size t → get_or (figures_rows t used) k d ≡ figures_at t used k
-unfolding figures_rows
-get_d_rows t used k d lt = get_or-map-range_with_len (figures_at t used) 0 (size t) k k d lt (omega arith)

@@ -8,7 +8,7 @@ use Rattle.theory.specs.Walls.{wall}
 use Rattle.theory.specs.Corners.{Ordered, falling, corners_of}
 use Rattle.theory.proofs.Corners.{steps_draw, wall_steps, wall_corners}
 use Rattle.theory.proofs.Range.{wall_bound}
-use Rattle.walls.specs.Pieces.{Ranged}
+use Rattle.walls.specs.Ranges.{Ranged}
 use Rattle.walls.specs.Readings.{drawn}
 use Rattle.thermographs.specs.Figures.{wall_of, run}
 use Rattle.thermographs.specs.Laws.{ToldIsRead}

@@ -9,13 +9,13 @@ use Rattle.theory.specs.Figures.{switch}
 use Rattle.spreading.specs.Order.{grown}
 use Rattle.spreading.specs.Shapes.{shapes_of}
 use Rattle.spreading.specs.declared.shape.Shape.{Shape}
-use Rattle.spreading.specs.declared.shape.Kind.TheVariants.{Ended, Open}
+use Rattle.spreading.specs.declared.shape.Shape.TheVariants.{Ended, Open}
 
 abbrev score_row : ℤ → Shape
-score_row v = record { kind = Ended; score = v; first = 0; lefts = 0; rights = 0 }
+score_row v = Ended v
 
 abbrev switch_row : ℕ → Shape
-switch_row f = record { kind = Open; score = pos 0; first = f; lefts = 1; rights = 1 }
+switch_row f = Open (record { first = f; lefts = 1; rights = 1 })
 
 -- {a|b}
 pub switch_fair : (a b : ℤ) → Score a → Score b → b ≤ℤ a → Fair (switch (ended a) (ended b))

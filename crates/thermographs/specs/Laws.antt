@@ -7,7 +7,7 @@ use Rattle.theory.specs.Fair.{Fair}
 use Rattle.theory.specs.Walls.{wall}
 use Rattle.theory.specs.Corners.{Ordered}
 use Rattle.spreading.specs.Order.{row}
-use Rattle.walls.specs.Pieces.{Tame}
+use Rattle.walls.specs.Ranges.{Tame}
 use Rattle.walls.specs.Readings.{drawn}
 use Rattle.thermographs.specs.declared.figures.Figures.{Figures}
 use Rattle.thermographs.specs.Figures.{strip_of, figures_at, wall_of, run, Tells}

@@ -1,6 +1,5 @@
 -- One row's figures from those of its options.
-use Rattle.std.specs.Prelude.{◌≡◌, ℕ, ◌+◌, ◌<◌, ◌≤◌, List, length, Some, None, Option, slice_index_or}
-use Rattle.std.proofs.Math.Seq.{paste}
+use Rattle.std.specs.Prelude.{◌≡◌, ℕ, ◌+◌, ◌<◌, List, length, Some, None, Option, slice_index_or}
 use Rattle.terms.specs.declared.side.Side.{Side}
 use Rattle.theory.specs.Trees.{Tree, Forest, branch, trees, options}
 use Rattle.theory.specs.Fair.{Fair}
@@ -8,6 +7,8 @@ use Rattle.spreading.specs.Order.{none}
 use Rattle.spreading.specs.Shapes.{shape_of, start_of}
 use Rattle.spreading.specs.declared.shape.Shape.{Shape}
 use Rattle.thermographs.specs.declared.figures.Figures.{Figures}
+use Rattle.thermographs.specs.declared.strip.Strip.{Strip}
+use Rattle.thermographs.specs.Strips.{Grown, Full}
 use Rattle.thermographs.specs.Figures.{blank, both_corners, figures_of, Tells}
 
 -- the figures tell the walls of the trees, in their order
@@ -27,8 +28,7 @@ pub record Ready (corners : List ℕ) (figures : List Figures) (shape : Shape) (
   pub shaped : shape ≡ shape_of f x
   pub told : (s : Side) (k : ℕ) → k < length (options x s) → Tells corners (slice_index_or figures (start_of shape s + k) blank) (slice_index_or (options x s) k none)
 
--- the figures of x are found and its corners are written behind the used ones, or there is no room for them
-abbrev pub RowInto : ℕ → Tree → List ℕ → Option Figures → List ℕ → Type 0
-RowInto used x strip None strip' = length strip < used + length (both_corners x)
-RowInto used x strip (Some f) strip' =
-    (f ≡ figures_of used x) × (used + length (both_corners x) ≤ length strip) × (strip' ≡ paste strip used (both_corners x) (length (both_corners x)))
+-- the figures of x are found and its corners are written behind the others, or there is no room for them
+abbrev pub RowInto : Tree → Strip → Option Figures → Strip → Type 0
+RowInto x old None new = Full (both_corners x) old new
+RowInto x old (Some f) new = (f ≡ figures_of old.used x) × Grown (both_corners x) old new

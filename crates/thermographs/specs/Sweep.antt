@@ -1,6 +1,5 @@
--- The sweep over a position's options: where its scaffolds meet, and the corners of its walls up to there.
-use Rattle.std.specs.Prelude.{◌≡◌, ℕ, ◌+◌, ◌*◌, ◌<◌, ◌≤◌, min, List, length, take, ℤ, pos, ◌+ℤ◌, ◌-ℤ◌, neg_ℤ, ◌≤ℤ◌, ◌<ℤ◌, Some, None, Option}
-use Rattle.std.proofs.Math.Seq.{paste}
+-- The sweep over a position's options: where its scaffolds meet, and its walls up to there.
+use Rattle.std.specs.Prelude.{◌≡◌, ℕ, ◌*◌, ◌<◌, ◌≤◌, min, List, ℤ, pos, ◌+ℤ◌, ◌-ℤ◌, neg_ℤ, ◌≤ℤ◌, ◌<ℤ◌}
 use Rattle.theory.specs.Limits.{wall_limit}
 use Rattle.theory.specs.Corners.{falling}
 use Rattle.thermographs.specs.declared.sweep.Meeting.{Meeting}
@@ -21,13 +20,3 @@ cut f m t = f (min t m) -ℤ pos (min t m)
 -- the corners draw the wall, in its side's own terms
 abbrev pub Draws : (ℕ → ℤ) → List ℕ → Type 0
 Draws f ds = (u : ℕ) → f u ≡ falling (f 0) ds u
-
--- they have been written from a place on, or there is no room for them
-abbrev pub Wrote : ℕ → List ℕ → List ℕ → Option ℕ → List ℕ → Type 0
-Wrote at ds strip None strip' = length strip < at + length ds
-Wrote at ds strip (Some n) strip' = (n ≡ at + length ds) × (strip' ≡ paste strip at ds (length ds))
-
--- what stands before the place stays
-abbrev pub Fits : ℕ → List ℕ → Option ℕ → List ℕ → Type 0
-Fits at strip None strip' = take at strip' ≡ take at strip
-Fits at strip (Some n) strip' = (take at strip' ≡ take at strip) × (at ≤ n) × (n ≤ length strip)

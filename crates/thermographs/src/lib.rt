@@ -6,6 +6,7 @@ mod figures;
 mod near;
 mod reading;
 mod rows;
+mod strip;
 mod sweep;
 #[cfg(test)]
 mod tests;

@@ -16,13 +16,11 @@ pub fn figures_tell_walls()
     ensures read { ToldIsRead }
 {}
 
-// A wall of a row at any tax, for Left as the books have it.
+// A wall of a row at any tax, for Left as the books have it: for callers with a strip of their own.
 pub fn wall_at(row: Figures, corners: &[u32], side: Side, t: u32) -> i32
     requires { (x : Tree) × Fair x × Tells corners.now row x }
     ensures { (x : Tree) → Fair x → Tells corners.now row x → result ≡ own side (wall_of x side t) }
 {
     let wall = row.wall(side);
-    let begin = wall.begin as usize;
-    let end = begin + wall.count as usize;
-    value_at(side, wall.start, &corners[begin..end], t)
+    value_at(side, wall.start, wall.corners(corners), t)
 }

@@ -1,115 +1,63 @@
 // The worked figures, found by the code.
 use crate::figures::{BLANK, Figures, Wall};
 use crate::rows::figure_rows;
-use spreading::{BLANK as UNUSED, Kind, Shape};
+use spreading::{Fork, Shape};
 use std::test::Fail;
 
 // {4|0}
 const FOUR_OR_NOTHING: [Shape; 3] = [
-    Shape {
-        kind: Kind::Open,
+    Shape::Open(Fork {
         first: 1,
         lefts: 1,
         rights: 1,
-        ..UNUSED
-    },
-    Shape {
-        kind: Kind::Ended,
-        score: 4,
-        ..UNUSED
-    },
-    Shape {
-        kind: Kind::Ended,
-        score: 0,
-        ..UNUSED
-    },
+    }),
+    Shape::Ended(4),
+    Shape::Ended(0),
 ];
 
 // {0|0}
 const NOTHING: [Shape; 3] = [
-    Shape {
-        kind: Kind::Open,
+    Shape::Open(Fork {
         first: 1,
         lefts: 1,
         rights: 1,
-        ..UNUSED
-    },
-    Shape {
-        kind: Kind::Ended,
-        score: 0,
-        ..UNUSED
-    },
-    Shape {
-        kind: Kind::Ended,
-        score: 0,
-        ..UNUSED
-    },
+    }),
+    Shape::Ended(0),
+    Shape::Ended(0),
 ];
 
 // {{5|2}|0}, in breadth-first order
 const FIVE_TWO: [Shape; 5] = [
-    Shape {
-        kind: Kind::Open,
+    Shape::Open(Fork {
         first: 1,
         lefts: 1,
         rights: 1,
-        ..UNUSED
-    },
-    Shape {
-        kind: Kind::Open,
+    }),
+    Shape::Open(Fork {
         first: 3,
         lefts: 1,
         rights: 1,
-        ..UNUSED
-    },
-    Shape {
-        kind: Kind::Ended,
-        score: 0,
-        ..UNUSED
-    },
-    Shape {
-        kind: Kind::Ended,
-        score: 5,
-        ..UNUSED
-    },
-    Shape {
-        kind: Kind::Ended,
-        score: 2,
-        ..UNUSED
-    },
+    }),
+    Shape::Ended(0),
+    Shape::Ended(5),
+    Shape::Ended(2),
 ];
 
 // {{9|2}|0}
 const NINE_TWO: [Shape; 5] = [
-    Shape {
-        kind: Kind::Open,
+    Shape::Open(Fork {
         first: 1,
         lefts: 1,
         rights: 1,
-        ..UNUSED
-    },
-    Shape {
-        kind: Kind::Open,
+    }),
+    Shape::Open(Fork {
         first: 3,
         lefts: 1,
         rights: 1,
-        ..UNUSED
-    },
-    Shape {
-        kind: Kind::Ended,
-        score: 0,
-        ..UNUSED
-    },
-    Shape {
-        kind: Kind::Ended,
-        score: 9,
-        ..UNUSED
-    },
-    Shape {
-        kind: Kind::Ended,
-        score: 2,
-        ..UNUSED
-    },
+    }),
+    Shape::Ended(0),
+    Shape::Ended(9),
+    Shape::Ended(2),
 ];
 
 #[test]

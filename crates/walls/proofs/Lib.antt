@@ -1,2 +1,3 @@
 pub mod Straight
+pub mod Drawing
 pub mod Trails

@@ -1,11 +1,12 @@
--- Between two corners a wall is straight, and the greater of two functions goes as the higher one.
-use Rattle.std.proofs.Common.{◌≡◌, ℕ, zero, suc, ◌+◌, ◌-◌, ◌%◌, ◌<◌, ◌≤◌, Bool, true, false, ltb, List, [], ◌∷◌, length, get_or, ℤ, pos, ◌+ℤ◌, ◌≤ℤ◌, refl, add-zero, add-suc, arith}
-use Rattle.std.proofs.lemmas.Int.{ints, clamps}
+-- Between two corners a wall is straight.
+use Rattle.std.proofs.Common.{◌≡◌, ℕ, zero, suc, ◌+◌, ◌-◌, ◌%◌, ◌<◌, ◌≤◌, Bool, true, false, ltb, List, [], ◌∷◌, length, get_or, ℤ, pos, ◌+ℤ◌, refl, add-zero, add-suc, arith}
+use Rattle.std.proofs.lemmas.Int.{ints}
 use Rattle.std.proofs.lemmas.Bool.{lt-ltb, le-ltb}
 use Rattle.theory.specs.Corners.{above, rise, rising}
 use Rattle.theory.proofs.Rising.{Rising, above_all}
 use Rattle.walls.specs.declared.piece.Piece.{Piece}
-use Rattle.walls.specs.Pieces.{bit, climb, greater_of, Linear, Tame}
+use Rattle.walls.specs.Pieces.{bit, climb, Linear}
+use Rattle.walls.specs.Ranges.{Tame}
 
 -- where the first k corners are no higher than u, and the next one is, all but k lie above u
 pub above_at : (p : ℕ) (cs : List ℕ) → Rising p cs → (k u : ℕ) → k ≤ length cs → ((i : ℕ) → i < k → get_or cs i 0 ≤ u)
@@ -46,24 +47,13 @@ reached cs r k a b t s kl lo hi e h g =
 pub rise_low : (base : ℤ) (cs : List ℕ) → Tame (rising base cs) → (t : ℕ) → rise cs t ≤ 8192000
 rise_low base cs h t = omega (arith, ints, h t, h 0)
 
--- a straight part of a wall is a piece
-pub piece_holds : (base : ℤ) (cs : List ℕ) → Rising 0 cs → (k t : ℕ) (p : Piece) → k ≤ length cs → ((i : ℕ) → i < k → get_or cs i 0 ≤ t)
-    → (k < length cs → p.until ≤ get_or cs k 0) → (length cs - k) % 2 ≡ bit p.slope → p.value ≡ (base +ℤ pos (rise cs t))
-    → Linear (rising base cs) t p
-piece_holds base cs r k t p kl lo hi e v j h =
-    let q : rise cs (t + j) ≡ rise cs t + climb p.slope j = straight cs r k t p.until p.slope kl lo hi e j h in
+-- a straight part of a wall is a piece, by its value at t, its slope and its end
+pub piece_holds : (base : ℤ) (cs : List ℕ) → Rising 0 cs → (k t until : ℕ) (value : ℤ) (slope : Bool) → k ≤ length cs → ((i : ℕ) → i < k → get_or cs i 0 ≤ t)
+    → (k < length cs → until ≤ get_or cs k 0) → (length cs - k) % 2 ≡ bit slope → value ≡ (base +ℤ pos (rise cs t))
+    → (j : ℕ) → t + j ≤ until → rising base cs (t + j) ≡ (value +ℤ pos (climb slope j))
+piece_holds base cs r k t until value slope kl lo hi e v j h =
+    let q : rise cs (t + j) ≡ rise cs t + climb slope j = straight cs r k t until slope kl lo hi e j h in
     omega (arith, ints)
-
--- the greater of two functions goes as the higher piece, as long as that is the higher
-pub over_linear : (a b : ℕ → ℤ) (t : ℕ) (p q : Piece) (e : ℕ) → e ≤ p.until → e ≤ q.until
-    → ((j : ℕ) → t + j ≤ e → (q.value +ℤ pos (climb q.slope j)) ≤ℤ (p.value +ℤ pos (climb p.slope j)))
-    → Linear a t p → Linear b t q → (j : ℕ) → t + j ≤ e
-    → (greater_of a b (t + j) ≡ (p.value +ℤ pos (climb p.slope j))) × (greater_of b a (t + j) ≡ (p.value +ℤ pos (climb p.slope j)))
-over_linear a b t p q e ep eq over la lb j h =
-    let x = la j (omega arith) in
-    let y = lb j (omega arith) in
-    let o = over j h in
-    (omega (arith, ints, clamps), omega (arith, ints, clamps))
 
 pub climb_zero : (s : Bool) → climb s 0 ≡ 0
 climb_zero true = refl

@@ -1,3 +1,4 @@
+pub mod Ranges
 pub mod Pieces
 pub mod Readings
 pub mod Turns

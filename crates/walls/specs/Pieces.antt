@@ -1,16 +1,7 @@
 -- Linear pieces of functions that rise by 0 or 1 at each unit.
-use Rattle.std.specs.Prelude.{◌≡◌, ℕ, ◌+◌, ◌≤◌, Bool, true, false, ◌⊎◌, ℤ, pos, ◌+ℤ◌, neg_ℤ, ◌≤ℤ◌, ◌<ℤ◌}
+use Rattle.std.specs.Prelude.{◌≡◌, ℕ, ◌+◌, ◌≤◌, Bool, true, false, ◌⊎◌, ℤ, pos, ◌+ℤ◌, ◌<ℤ◌}
 use Rattle.std.specs.Int.{int_max}
-use Rattle.theory.specs.Limits.{wall_limit}
 use Rattle.walls.specs.declared.piece.Piece.{Piece}
-
--- the range of figures
-abbrev pub Ranged : ℤ → Type 0
-Ranged z = (neg_ℤ (pos wall_limit) ≤ℤ z) × (z ≤ℤ pos wall_limit)
-
--- a function that stays in it
-abbrev pub Tame : (ℕ → ℤ) → Type 0
-Tame f = (t : ℕ) → Ranged (f t)
 
 -- 1 for a slope, 0 for none
 abbrev pub bit : Bool → ℕ

@@ -1,38 +1,53 @@
-ghost use Rattle.std.specs.Prelude.{◌≡◌, ◌≤◌, length};
-ghost use Rattle.walls.specs.Turns.{turns as turns_at, After, written};
+ghost use Rattle.std.specs.Prelude.{◌≡◌, ◌≤◌, false, length};
 
-// How many corners have been written, and whether the wall slopes where the last one stands.
-#[derive(Clone, Copy)]
-pub struct Trail {
+// Going along a wall: the places for its corners, of which the first `len` are written, and whether
+// the wall slopes where the last one stands. `same_reference` says that no other places were put in,
+// which a type cannot.
+#[derive(Drop)]
+pub struct Trail<'a> {
+    pub places: &'a mut [u32],
     pub len: usize,
     pub slope: bool,
+    pub ghost room: { len ≤ length places.now },
 }
 
-// Whether there is a corner at `t`: the slope changes there, and a wall has none at 0.
-fn turns(was: bool, slope: bool, t: u32) -> bool
-    ensures { result ≡ turns_at was slope t }
-{
-    0 < t && was != slope
-}
+impl<'a> Trail<'a> {
+    ghost use Rattle.walls.specs.Turns.{turns as turns_at, After, written};
 
-// Writes a corner at `t` if the slope changes there; none where there is no room for it.
-pub fn turn(out: &mut [u32], trail: Trail, slope: bool, t: u32) -> Option<Trail>
-    requires { trail.len ≤ length out.old }
-    ensures trail { After trail (length out.old) slope t result }
-    ensures out { out.new ≡ written out.old trail slope t }
-{
-    if !turns(trail.slope, slope, t) {
-        return Some(Trail {
-            len: trail.len,
-            slope,
-        });
+    // The trail where a wall begins: no corner is written.
+    pub fn new(places: &'a mut [u32]) -> Trail<'a>
+        ensures same_reference { result.places.ghost_name ≡ places.entry.ghost_name }
+        ensures places { result.places.now ≡ places.old }
+        ensures none { (result.len ≡ 0) × (result.slope ≡ false) }
+    {
+        Trail {
+            places,
+            len: 0,
+            slope: false,
+        }
     }
-    if trail.len >= out.len() {
-        return None;
+
+    // Whether there is a corner at `t`: the slope changes there, and a wall has none at 0.
+    fn turns(&self, slope: bool, t: u32) -> bool
+        ensures { result ≡ turns_at self.now.slope slope t }
+    {
+        0 < t && self.slope != slope
     }
-    out[trail.len] = t;
-    Some(Trail {
-        len: trail.len + 1,
-        slope,
-    })
+
+    // Writes a corner at `t` if the slope changes there; none where there is no room for it.
+    pub fn turn(&mut self, slope: bool, t: u32) -> Option<()>
+        ensures same_reference { self.new.places.ghost_name ≡ self.old.places.ghost_name }
+        ensures trail { After self.old slope t result self.new }
+        ensures places { self.new.places.now ≡ written self.old slope t }
+    {
+        if self.turns(slope, t) {
+            if self.len >= self.places.len() {
+                return None;
+            }
+            self.places[self.len] = t;
+            self.len += 1;
+        }
+        self.slope = slope;
+        Some(())
+    }
 }

@@ -9,8 +9,8 @@ mod piece;
 mod reading;
 mod scaffold;
 
-pub use corner::{Trail, turn};
+pub use corner::Trail;
 pub use maximum::greater;
 pub use piece::Piece;
 pub use reading::{piece_at, value_at};
-pub use scaffold::{apart, reach};
+pub use scaffold::Scaffolds;

@@ -1,5 +1,5 @@
 ghost use Rattle.std.specs.Prelude.{◌≡◌, ℕ, ◌+◌, ◌<◌, ◌≤◌, not, ◌&&◌, ℤ};
-ghost use Rattle.walls.specs.Pieces.{bit, climb, greater_of, Linear, Over, Ranged};
+ghost use Rattle.walls.specs.Pieces.{bit, climb, greater_of, Linear, Over};
 
 use crate::piece::Piece;
 
@@ -28,10 +28,8 @@ fn held(gaining: bool, gap: u32, t: u32, until: u32) -> u32
 // after it.
 fn over(high: Piece, low: Piece, t: u32) -> Piece
     requires ahead { (t < high.until) × (t < low.until) }
-    requires ranged { (Ranged high.value) × (Ranged low.value) }
     requires over { Over high.value high.slope low.value low.slope }
     ensures ahead { t < result.until }
-    ensures ranged { Ranged result.value }
     ensures linear { (a b : ℕ → ℤ) → Linear a t high → Linear b t low → Linear (greater_of a b) t result × Linear (greater_of b a) t result }
 {
     let gap = (high.value - low.value) as u32;
@@ -52,9 +50,7 @@ fn over(high: Piece, low: Piece, t: u32) -> Piece
 // greater.
 pub fn greater(p: Piece, q: Piece, t: u32) -> Piece
     requires ahead { (t < p.until) × (t < q.until) }
-    requires ranged { (Ranged p.value) × (Ranged q.value) }
     ensures ahead { t < result.until }
-    ensures ranged { Ranged result.value }
     ensures linear { (a b : ℕ → ℤ) → Linear a t p → Linear b t q → Linear (greater_of a b) t result }
 {
     if p.value > q.value || (p.value == q.value && (p.slope || !q.slope)) {

@@ -1,6 +1,7 @@
 ghost use Rattle.std.specs.Prelude.{◌≡◌, ◌+◌, ◌^◌, ◌<◌, ◌≤◌};
 ghost use Rattle.theory.specs.Corners.{Ordered, rising};
-ghost use Rattle.walls.specs.Pieces.{climb, Linear, Ranged, Tame};
+ghost use Rattle.walls.specs.Pieces.{climb, Linear};
+ghost use Rattle.walls.specs.Ranges.{Tame};
 ghost use Rattle.walls.specs.Readings.{drawn};
 
 use crate::piece::Piece;
@@ -20,7 +21,6 @@ pub fn piece_at(base: i32, corners: &[u32], t: u32) -> Piece
     requires tame { Tame (rising base corners.now) }
     ensures here { t ≤ result.until }
     ensures ahead { t + 1 < 2 ^ 32 → t < result.until }
-    ensures ranged { Ranged result.value }
     ensures linear { Linear (rising base corners.now) t result }
 {
     let mut slope = corners.len() % 2 == 1;
@@ -47,14 +47,12 @@ pub fn piece_at(base: i32, corners: &[u32], t: u32) -> Piece
     }
 }
 
-// A side's wall at any `t`, from its value at 0 and its corners.
+// A side's wall at any `t`, from its value at 0 and its corners. It rises as the other side counts.
 pub fn value_at(side: Side, start: i32, corners: &[u32], t: u32) -> i32
     requires ordered { Ordered corners.now }
     requires tame { Tame (drawn side start corners.now) }
     ensures { result ≡ drawn side start corners.now t }
 {
-    match side {
-        Side::Left => -piece_at(-start, corners, t).value,
-        Side::Right => piece_at(start, corners, t).value,
-    }
+    let rises = side.other();
+    rises.own(piece_at(rises.own(start), corners, t).value)
 }

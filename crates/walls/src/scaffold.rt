@@ -1,11 +1,19 @@
 ghost use Rattle.std.specs.Prelude.{◌≡◌, ℕ, ◌+◌, ◌*◌, ◌<◌, ◌≤◌, pos, ◌+ℤ◌, ◌≤ℤ◌, ◌<ℤ◌, MatchBool};
 ghost use Rattle.theory.specs.Limits.{wall_limit};
-ghost use Rattle.walls.specs.Pieces.{climb, Ranged};
+ghost use Rattle.walls.specs.Pieces.{climb};
 
 use crate::piece::Piece;
 
 // The scaffolds of a position, each in its side's own terms, are the best near walls of its options
-// less the tax; they have met where the two near walls come to no more than twice the tax.
+// less the tax; they have met where the two near walls come to no more than twice the tax. Here are
+// the near walls' pieces at the tax `t`.
+#[derive(Clone, Copy)]
+pub struct Scaffolds {
+    pub left: Piece,
+    pub right: Piece,
+    pub t: u32,
+    pub ghost low: { t ≤ wall_limit },
+}
 
 // The number of steps, at most `most`, after which a `gap` is closed that each step narrows by 2,
 // less the slopes.
@@ -24,33 +32,31 @@ fn closing(m: bool, n: bool, gap: u32, most: u32) -> u32
     (gap / 2 + gap % 2).min(most)
 }
 
-// How far the near walls come to more than twice the tax.
-fn gap(m: i32, n: i32, t: u32) -> i32
-    requires ranged { (Ranged m) × (Ranged n) }
-    requires below { t ≤ wall_limit }
-    ensures { (result +ℤ pos (2 * t)) ≡ (m +ℤ n) }
-{
-    m + n - 2 * t as i32
-}
+impl Scaffolds {
+    // How far the near walls come to more than twice the tax.
+    fn gap(self) -> i32
+        ensures { (result +ℤ pos (2 * self.t)) ≡ (self.left.value +ℤ self.right.value) }
+    {
+        self.left.value + self.right.value - 2 * self.t as i32
+    }
 
-// Whether the scaffolds have not met at `t`.
-pub fn apart(m: Piece, n: Piece, t: u32) -> bool
-    requires ranged { (Ranged m.value) × (Ranged n.value) }
-    requires below { t ≤ wall_limit }
-    ensures { MatchBool result (pos (2 * t) <ℤ (m.value +ℤ n.value)) ((m.value +ℤ n.value) ≤ℤ pos (2 * t)) }
-{
-    gap(m.value, n.value, t) > 0
-}
+    // Whether the scaffolds have not met at `t`.
+    pub fn apart(self) -> bool
+        ensures { MatchBool result (pos (2 * self.t) <ℤ (self.left.value +ℤ self.right.value)) ((self.left.value +ℤ self.right.value) ≤ℤ pos (2 * self.t)) }
+    {
+        self.gap() > 0
+    }
 
-// The next place where a piece ends or the scaffolds meet.
-pub fn reach(m: Piece, n: Piece, t: u32) -> u32
-    requires ahead { (t < m.until) × (t < n.until) }
-    requires ranged { (Ranged m.value) × (Ranged n.value) }
-    requires hot { pos (2 * t) <ℤ (m.value +ℤ n.value) }
-    ensures ahead { t < result }
-    ensures within { (result ≤ m.until) × (result ≤ n.until) }
-    ensures hot { (j : ℕ) → t + j < result → pos (2 * (t + j)) <ℤ ((m.value +ℤ pos (climb m.slope j)) +ℤ (n.value +ℤ pos (climb n.slope j))) }
-{
-    let wide = gap(m.value, n.value, t) as u32;
-    t + closing(m.slope, n.slope, wide, m.until.min(n.until) - t)
+    // The next place where a piece ends or the scaffolds meet.
+    pub fn reach(self) -> u32
+        requires ahead { (self.t < self.left.until) × (self.t < self.right.until) }
+        requires hot { pos (2 * self.t) <ℤ (self.left.value +ℤ self.right.value) }
+        ensures ahead { self.t < result }
+        ensures within { (result ≤ self.left.until) × (result ≤ self.right.until) }
+        ensures hot { (j : ℕ) → self.t + j < result → pos (2 * (self.t + j)) <ℤ ((self.left.value +ℤ pos (climb self.left.slope j)) +ℤ (self.right.value +ℤ pos (climb self.right.slope j))) }
+    {
+        let wide = self.gap() as u32;
+        let most = self.left.until.min(self.right.until) - self.t;
+        self.t + closing(self.left.slope, self.right.slope, wide, most)
+    }
 }

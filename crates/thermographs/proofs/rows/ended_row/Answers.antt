@@ -6,7 +6,7 @@ use Rattle.thermographs.proofs.rows.ended_row.Goals as goal
 
 pub returns : goal.returns
 returns c =
-    let a = c.requires.0.0 in
-    let b = c.requires.0.1 in
+    let a = c.requires.0 in
+    let b = c.requires.1 in
     let value : to_z w32 (of_z w32 (pos 4096 *ℤ to_z w32 (of_z w32 (to_z w16 (of_z w16 c.args.score))))) ≡ (pos unit *ℤ c.args.score) = omega (arith, ints) in
-    ended_figures c.args.score c.args.used _ value refl value refl refl value refl refl
+    ended_figures c.args.score c.args.strip.now.used _ value refl value refl refl value refl refl

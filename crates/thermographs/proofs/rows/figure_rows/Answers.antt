@@ -1,55 +1,62 @@
-use Rattle.std.proofs.Common.{◌≡◌, ℕ, suc, ◌+◌, ◌-◌, ◌<◌, length, ap, ◌∙◌, subst, arith}
-use Rattle.theory.specs.Trees.{size}
+use Rattle.std.proofs.Common.{◌≡◌, ◌≤◌, length, sym, refl, ap, ◌∙◌, subst, arith, rules}
+use Rattle.std.specs.Iterator.Adapters.{rev_source, enumerate_source}
+use Rattle.std.specs.Slice.Iter.{iter_rest}
 use Rattle.spreading.specs.Order.{row, first}
-use Rattle.spreading.proofs.Shapes.{length_shapes}
-use Rattle.thermographs.specs.declared.figures.Figures.{Figures}
-use Rattle.thermographs.proofs.OpenRow.{corners_many}
-use Rattle.thermographs.proofs.Pass.{Pass, pass_none, pass_ready, pass_inside, pass_more, pass_short, pass_all}
+use Rattle.spreading.specs.Shapes.{end_of}
+use Rattle.spreading.specs.declared.shape.Shape.{Shape}
+use Rattle.spreading.proofs.Passes.{front_all, front_turn}
+use Rattle.spreading.proofs.Rows.{children_inside}
+use Rattle.spreading.proofs.Shapes.{length_shapes, shape_inside}
+use Rattle.thermographs.proofs.Pass.{pass_none, pass_turn, pass_ready, pass_more, pass_short, pass_all, pass_at, into_none, into_all}
 use Rattle.thermographs.proofs.rows.figure_rows.Goals as goal
 
 pub loop-i-init : goal.loop-i-init
-loop-i-init c t fair e = pass_none t c.args.used c.args.figures.now c.args.corners.now _ (omega (arith, ap length e, length_shapes t)) c.requires.room.0
+loop-i-init c =
+    let all : iter_rest (enumerate_source (rev_source c.into_iter-i-iterator.result)) ≡ c.args.shapes.now =
+    rw (c.into_iter-i-iterator.ensures.into_iter_gives, c.rev-i-items.ensures.source, c.enumerate.ensures.source, c.iter.ensures.rest) refl in
+    record {
+      same = refl;
+      count = cc;
+      front = rw all (front_all c.args.shapes.now);
+      pass = λ t fair e. pass_none t c.args.figures.now _ _ (omega (arith, ap length all, ap length e, length_shapes t));
+    }
 
 pub figure_row-requires : goal.figure_row-requires
 figure_row-requires c =
     let (t, fair, e) = c.requires.seated in
-    let i = c.loop-i.i - 1 in
-    let many : length c.args.shapes.now ≡ size t = ap length e ∙ length_shapes t in
-    let next : c.loop-i.i ≡ suc i = omega arith in
-    let P = subst (λ (j : ℕ). Pass t c.args.used c.args.figures.now c.args.corners.now c.loop-i.figures c.loop-i.corners c.loop-i.n j) next (c.loop-i.invariant t fair e) in
+    let step = c.in-Some.ensures.steps in
+    let (lt, here, P) = pass_turn t _ _ _ _ c.in-Some.i _ _ _ _ c.loop-i.invariant.front step.1.0 (omega (arith, c.loop-i.invariant.count)) e (c.loop-i.invariant.pass t fair e) in
     record {
-      inside = pass_inside t i (omega arith) c.args.shapes.now _ e (length c.loop-i.figures) (omega (arith, c.requires.rows));
-      ready = (first t i, row t i, pass_ready t c.args.used c.args.figures.now c.args.corners.now c.loop-i.figures c.loop-i.corners c.loop-i.n i P fair (omega arith) c.args.shapes.now _ e);
-      room = (omega (arith, P.room), omega (arith, c.requires.room.1));
+      inside = subst (λ (x : Shape). end_of x ≤ length c.loop-i.figures) (sym here)
+          (shape_inside (length c.loop-i.figures) (first t c.in-Some.i) (row t c.in-Some.i) (omega (arith, children_inside t c.in-Some.i lt, c.requires.rows, ap length e, length_shapes t)));
+      ready = (first t c.in-Some.i, row t c.in-Some.i, pass_ready t _ _ c.loop-i.figures c.loop-i.strip c.in-Some.i lt P fair c.in-Some.shape.now here);
     }
 
-pub returns-in_default : goal.returns-in_default
-returns-in_default c t fair e =
-    let i = c.loop-i.i - 1 in
-    let many : length c.args.shapes.now ≡ size t = ap length e ∙ length_shapes t in
-    let next : c.loop-i.i ≡ suc i = omega arith in
-    let lt : i < size t = omega arith in
-    let P = subst (λ (j : ℕ). Pass t c.args.used c.args.figures.now c.args.corners.now c.loop-i.figures c.loop-i.corners c.loop-i.n j) next (c.loop-i.invariant t fair e) in
-    pass_short t c.args.used c.args.figures.now c.args.corners.now c.loop-i.figures c.loop-i.corners c.loop-i.n i P lt c.requires.room.0 (omega arith)
-    c.figure_row.new.corners c.in_default.ensures.kept
-    (c.in_default.ensures.row (first t i) (row t i)
-    (pass_ready t c.args.used c.args.figures.now c.args.corners.now c.loop-i.figures c.loop-i.corners c.loop-i.n i P fair lt c.args.shapes.now _ e))
+pub returns-in_err-figures : goal.returns-in_err-figures
+returns-in_err-figures c t fair e =
+    let step = c.in-Some.ensures.steps in
+    let (lt, here, P) = pass_turn t _ _ _ _ c.in-Some.i _ _ _ _ c.loop-i.invariant.front step.1.0 (omega (arith, c.loop-i.invariant.count)) e (c.loop-i.invariant.pass t fair e) in
+    let short = c.in_err-figures.ensures.row (first t c.in-Some.i) (row t c.in-Some.i) (pass_ready t _ _ c.loop-i.figures c.loop-i.strip c.in-Some.i lt P fair c.in-Some.shape.now here) in
+    into_none t _ _ _ _ _ c.new-strip.result c.figure_row.new.strip c.new-strip.ensures.used c.new-strip.ensures.places (search rules) _ c.from_residual.ensures
+    (pass_short t _ _ c.loop-i.figures c.loop-i.strip c.in-Some.i lt P c.figure_row.new.strip short)
 
 pub loop-i-preserved : goal.loop-i-preserved
-loop-i-preserved c t fair e =
-    let i = c.loop-i.i - 1 in
-    let many : length c.args.shapes.now ≡ size t = ap length e ∙ length_shapes t in
-    let next : c.loop-i.i ≡ suc i = omega arith in
-    let lt : i < size t = omega arith in
-    let P = subst (λ (j : ℕ). Pass t c.args.used c.args.figures.now c.args.corners.now c.loop-i.figures c.loop-i.corners c.loop-i.n j) next (c.loop-i.invariant t fair e) in
-    let R = c.in-Some.ensures.row (first t i) (row t i)
-    (pass_ready t c.args.used c.args.figures.now c.args.corners.now c.loop-i.figures c.loop-i.corners c.loop-i.n i P fair lt c.args.shapes.now _ e) in
-    let begins = ap (λ (f : Figures). f.right.begin + f.right.count) R.0 in
-    pass_more t c.args.used c.args.figures.now c.args.corners.now c.loop-i.figures c.loop-i.corners c.loop-i.n i P lt c.requires.room.0 (omega arith)
-    c.in-Some.row c.figure_row.new.corners _ (omega (arith, c.requires.rows)) c.in-Some.ensures.kept (omega arith) R (omega (arith, begins, corners_many (row t i)))
+loop-i-preserved c =
+    let step = c.in-Some.ensures.steps in
+    let at : c.in-Some.i ≡ length (iter_rest (enumerate_source (rev_source c.next.new.self))) = omega (arith, c.loop-i.invariant.count) in
+    record {
+      same = c.figure_row.ensures.same_reference ∙ c.loop-i.invariant.same;
+      count = step.0 ∙ c.loop-i.invariant.count;
+      front = (front_turn _ _ _ _ c.loop-i.invariant.front step.1.0).0;
+      pass = λ t fair e.
+          let (lt, here, P) = pass_turn t _ _ _ _ c.in-Some.i _ _ _ _ c.loop-i.invariant.front step.1.0 at e (c.loop-i.invariant.pass t fair e) in
+          let done = c.in_ok-figures.ensures.row (first t c.in-Some.i) (row t c.in-Some.i) (pass_ready t _ _ c.loop-i.figures c.loop-i.strip c.in-Some.i lt P fair c.in-Some.shape.now here) in
+          pass_at t _ _ _ _ _ _ at
+          (pass_more t _ _ c.loop-i.figures c.loop-i.strip c.in-Some.i lt P c.in_ok-figures.field-0 c.figure_row.new.strip (omega (arith, c.requires.rows, ap length e, length_shapes t)) done);
+    }
 
 pub returns : goal.returns
 returns c t fair e =
-    let zero : c.loop-i.i ≡ 0 = omega arith in
-    let P = subst (λ (j : ℕ). Pass t c.args.used c.args.figures.now c.args.corners.now c.loop-i.figures c.loop-i.corners c.loop-i.n j) zero (c.loop-i.invariant t fair e) in
-    pass_all t c.args.used c.args.figures.now c.args.corners.now c.loop-i.figures c.loop-i.corners c.loop-i.n P (omega (arith, ap length e, length_shapes t, c.requires.rows))
+    let none : length (iter_rest (enumerate_source (rev_source c.loop-i.i-iterator))) ≡ 0 = c.in-None.ensures.steps.1.0 in
+    into_all t _ _ _ _ _ c.new-strip.result c.loop-i.strip c.new-strip.ensures.used c.new-strip.ensures.places (search rules)
+    (pass_all t _ _ c.loop-i.figures c.loop-i.strip (pass_at t _ _ _ _ _ _ none (c.loop-i.invariant.pass t fair e)) (omega (arith, ap length e, length_shapes t, c.requires.rows)))

@@ -1,94 +1,76 @@
-use Rattle.std.proofs.Common.{◌≡◌, ℕ, ◌-◌, ◌≤◌, List, get_or, take, Some, None, sym, refl, ap, ◌∙◌, subst, arith}
-use Rattle.std.proofs.lemmas.List.{take-take}
+use Rattle.std.proofs.Common.{◌≡◌, ℕ, List, length, ℤ, Some, None, Option, sym, refl, ap, ◌∙◌, subst, arith, to_z, of_z, w32}
 use Rattle.std.proofs.lemmas.Int.{ints}
 use Rattle.terms.specs.declared.side.Side.TheVariants.{Left, Right}
-use Rattle.theory.specs.Trees.{branch}
+use Rattle.theory.specs.Trees.{Forest, branch}
+use Rattle.theory.specs.Corners.{corners_of}
 use Rattle.thermographs.specs.declared.figures.Figures.{Figures}
-use Rattle.thermographs.specs.declared.sweep.Meeting.{Meeting}
-use Rattle.thermographs.specs.Figures.{blank}
-use Rattle.thermographs.specs.Near.{best, SoundNear}
+use Rattle.thermographs.specs.Near.{best, Sound}
+use Rattle.thermographs.specs.Strips.{told, Grown}
+use Rattle.thermographs.specs.Rows.{OpenReady, RowInto}
 use Rattle.thermographs.specs.Sweep.{Meets}
-use Rattle.thermographs.proofs.Positions.{left_near, right_near, some_left, some_right}
-use Rattle.thermographs.proofs.OpenRow.{from_zero, corners_many, mean_ranged, left_ranged, right_ranged, left_wrote, right_wrote, open_row}
+use Rattle.thermographs.proofs.Draw.{made_wall}
+use Rattle.thermographs.proofs.Positions.{left_sound, right_sound}
+use Rattle.thermographs.proofs.OpenRow.{mean_ranged, left_ranged, right_ranged, left_wrote, right_wrote, still_ready, left_full, right_full, open_row}
 use Rattle.thermographs.proofs.rows.open_row.Goals as goal
+use Rattle.thermographs.proofs.rows.open_row.Goals.{After-meet-meeting, In_ok-left}
 
--- what the sweep found, over the used corners
-met : (used : ℕ) (strip : List ℕ) (lefts rights : List Figures) (r : Meeting) → Meets (best Left (take (used - 0) strip) lefts) (best Right (take (used - 0) strip) rights) r
-    → Meets (best Left (take used strip) lefts) (best Right (take used strip) rights) r
-met used strip lefts rights r m = subst (λ (s : List ℕ). Meets (best Left s lefts) (best Right s rights) r) (from_zero used strip) m
-
--- the used corners stay, where those up to a place behind them do
-used-stay : (used at : ℕ) (two one entry : List ℕ) → used ≤ at → take at two ≡ take at one → take used one ≡ take used entry → take used two ≡ take used entry
-used-stay used at two one entry l e h = sym (take-take used at two l) ∙ ap (take used) e ∙ take-take used at one l ∙ h
+-- what the sweep found, over the told corners
+met : (c : After-meet-meeting) → Meets (best Left (told c.args.strip.now) c.args.lefts.now) (best Right (told c.args.strip.now) c.args.rights.now) c.meet-meeting.result
+met c = subst (λ (s : List ℕ). Meets (best Left s c.args.lefts.now) (best Right s c.args.rights.now) c.meet-meeting.result) c.told.ensures c.meet-meeting.ensures
 
 pub meet-meeting-requires : goal.meet-meeting-requires
 meet-meeting-requires c =
-    let (L, R, O) = c.requires.ready in
-    let z = sym (from_zero c.args.used c.args.corners.now) in
+    let (L, R, O) = c.requires in
     record {
-      some = (some_left _ c.args.lefts.now c.args.rights.now L R O, some_right _ c.args.lefts.now c.args.rights.now L R O);
-      lefts = λ k l. subst (λ (s : List ℕ). SoundNear Left s (get_or c.args.lefts.now k blank)) z (left_near _ c.args.lefts.now c.args.rights.now L R O k l);
-      rights = λ k l. subst (λ (s : List ℕ). SoundNear Right s (get_or c.args.rights.now k blank)) z (right_near _ c.args.lefts.now c.args.rights.now L R O k l);
+      lefts = subst (λ (s : List ℕ). Sound Left s c.args.lefts.now) (sym c.told.ensures) (left_sound _ c.args.lefts.now c.args.rights.now L R O);
+      rights = subst (λ (s : List ℕ). Sound Right s c.args.rights.now) (sym c.told.ensures) (right_sound _ c.args.lefts.now c.args.rights.now L R O);
     }
 
-pub draw-requires : goal.draw-requires
-draw-requires c =
-    let (L, R, O) = c.requires.ready in
-    record {
-      some = some_left _ c.args.lefts.now c.args.rights.now L R O;
-      sound = left_near _ c.args.lefts.now c.args.rights.now L R O;
-      room = (omega arith, c.requires.room.0);
-      below = c.meet-meeting.ensures.low;
-    }
+pub draw-requires-clause-sound : goal.draw-requires-clause-sound
+draw-requires-clause-sound c = let (L, R, O) = c.requires in left_sound _ c.args.lefts.now c.args.rights.now L R O
 
-pub returns-in_default : goal.returns-in_default
-returns-in_default c = record {
-  kept = c.in_default.ensures.fits;
-  row = λ L R O.
-      let M = met c.args.used c.args.corners.now c.args.lefts.now c.args.rights.now c.meet-meeting.result c.meet-meeting.ensures in
-      let w = left_wrote c.args.used c.args.corners.now c.args.lefts.now c.args.rights.now c.meet-meeting.result M L R O None c.draw.new.corners c.in_default.ensures.wrote in
-      omega (arith, w, corners_many (branch L R));
-}
+pub returns-in_err-left-clause-row : goal.returns-in_err-left-clause-row
+returns-in_err-left-clause-row c L R O =
+    let M = met (goal.at.returns-in_err-left-clause-row c).After-meet-meeting in
+    subst (λ (o : Option Figures). RowInto (branch L R) c.args.strip.now o c.draw.new.self) (sym c.from_residual.ensures)
+    (left_full L R c.args.strip.now c.draw.new.self
+    (left_wrote c.args.strip.now c.args.lefts.now c.args.rights.now L R O c.meet-meeting.result M c.meet-meeting.result.left None c.draw.new.self c.in_err-left.ensures.wrote))
 
-pub draw-requires-2 : goal.draw-requires-2
-draw-requires-2 c =
-    let (L, R, O) = c.requires.ready in
-    let fits = c.in-Some.ensures.fits in
-    record {
-      some = some_right _ c.args.lefts.now c.args.rights.now L R O;
-      sound = λ k l. subst (λ (s : List ℕ). SoundNear Right s (get_or c.args.rights.now k blank)) (sym fits.0) (right_near _ c.args.lefts.now c.args.rights.now L R O k l);
-      room = (fits.1, omega (arith, fits.2));
-      below = c.meet-meeting.ensures.low;
-    }
+-- the left wall is written
+left : (c : In_ok-left) → Meets (best Left (told c.args.strip.now) c.args.lefts.now) (best Right (told c.args.strip.now) c.args.rights.now) c.meet-meeting.result → (L R : Forest) → OpenReady (told c.args.strip.now) c.args.lefts.now c.args.rights.now L R
+    → (c.in_ok-left.left ≡ made_wall (to_z w32 (of_z w32 c.meet-meeting.result.left)) c.args.strip.now.used (length (corners_of (branch L R) Left)))
+    × Grown (corners_of (branch L R) Left) c.args.strip.now c.draw.new.self
+left c M L R O =
+    left_wrote c.args.strip.now c.args.lefts.now c.args.rights.now L R O c.meet-meeting.result M
+    _ (Some c.in_ok-left.left) c.draw.new.self c.in_ok-left.ensures.wrote
 
-pub returns-in_default-draw : goal.returns-in_default-draw
-returns-in_default-draw c =
-    let fits = c.in-Some.ensures.fits in
-    record {
-      kept = used-stay c.args.used c.in-Some.mid c.draw-2.new.corners c.draw.new.corners c.args.corners.now fits.1 c.in_default-draw.ensures.fits fits.0;
-      row = λ L R O.
-          let M = met c.args.used c.args.corners.now c.args.lefts.now c.args.rights.now c.meet-meeting.result c.meet-meeting.ensures in
-          let v = left_wrote c.args.used c.args.corners.now c.args.lefts.now c.args.rights.now c.meet-meeting.result M L R O (Some c.in-Some.mid) c.draw.new.corners c.in-Some.ensures.wrote in
-          let w = right_wrote c.args.used c.args.corners.now c.args.lefts.now c.args.rights.now c.meet-meeting.result M L R O c.in-Some.mid None
-          c.draw.new.corners c.draw-2.new.corners fits.0 c.in_default-draw.ensures.wrote in
-          omega (arith, v.0, w, corners_many (branch L R));
-    }
+pub draw-requires-2-clause-sound : goal.draw-requires-2-clause-sound
+draw-requires-2-clause-sound c =
+    let (L, R, O) = c.requires in
+    let M = met (goal.at.draw-requires-2-clause-sound c).After-meet-meeting in
+    let (is, G) = left (goal.at.draw-requires-2-clause-sound c).In_ok-left M L R O in
+    right_sound _ c.args.lefts.now c.args.rights.now L R (still_ready c.args.strip.now c.args.lefts.now c.args.rights.now L R O c.meet-meeting.result M c.draw.new.self G)
 
-pub returns : goal.returns
-returns c =
-    let fits = c.in-Some.ensures.fits in
-    let more = c.in-Some-draw.ensures.fits in
-    let M = met c.args.used c.args.corners.now c.args.lefts.now c.args.rights.now c.meet-meeting.result c.meet-meeting.ensures in
-    record {
-      kept = used-stay c.args.used c.in-Some.mid c.draw-2.new.corners c.draw.new.corners c.args.corners.now fits.1 more.0 fits.0;
-      row = λ L R O.
-          let rm = mean_ranged c.args.used c.args.corners.now c.args.lefts.now c.args.rights.now c.meet-meeting.result M L R O in
-          let rl = left_ranged c.args.used c.args.corners.now c.args.lefts.now c.args.rights.now c.meet-meeting.result M L R O in
-          let rr = right_ranged c.args.used c.args.corners.now c.args.lefts.now c.args.rights.now c.meet-meeting.result M L R O in
-          let v = left_wrote c.args.used c.args.corners.now c.args.lefts.now c.args.rights.now c.meet-meeting.result M L R O (Some c.in-Some.mid) c.draw.new.corners c.in-Some.ensures.wrote in
-          let w = right_wrote c.args.used c.args.corners.now c.args.lefts.now c.args.rights.now c.meet-meeting.result M L R O c.in-Some.mid (Some c.in-Some-draw.end)
-          c.draw.new.corners c.draw-2.new.corners fits.0 c.in-Some-draw.ensures.wrote in
-          open_row c.args.used c.args.corners.now c.args.lefts.now c.args.rights.now c.meet-meeting.result M L R O _
-          c.draw.new.corners c.draw-2.new.corners c.in-Some.mid c.in-Some-draw.end c.requires.room.0 (omega arith) (omega (arith, more.2)) v w
-          (omega (arith, ints)) refl (omega (arith, ints)) refl refl (omega (arith, ints)) refl refl;
-    }
+pub returns-in_err-right-clause-row : goal.returns-in_err-right-clause-row
+returns-in_err-right-clause-row c L R O =
+    let M = met (goal.at.returns-in_err-right-clause-row c).After-meet-meeting in
+    let (is, G) = left (goal.at.returns-in_err-right-clause-row c).In_ok-left M L R O in
+    subst (λ (o : Option Figures). RowInto (branch L R) c.args.strip.now o c.draw-2.new.self) (sym c.from_residual-in_err-right.ensures)
+    (right_full c.args.strip.now c.args.lefts.now c.args.rights.now L R O c.meet-meeting.result M c.draw.new.self G c.draw-2.new.self
+    (right_wrote c.args.strip.now c.args.lefts.now c.args.rights.now L R O c.meet-meeting.result M c.draw.new.self G c.meet-meeting.result.right None c.draw-2.new.self c.in_err-right.ensures.wrote))
+
+pub returns-clause-row : goal.returns-clause-row
+returns-clause-row c L R O =
+    let old = c.args.strip.now in
+    let r = c.meet-meeting.result in
+    let M = met (goal.at.returns-clause-row c).After-meet-meeting in
+    let (is, G) = left (goal.at.returns-clause-row c).In_ok-left M L R O in
+    let (is', H) = right_wrote old c.args.lefts.now c.args.rights.now L R O r M c.draw.new.self G _ (Some c.in_ok-right.right) c.draw-2.new.self c.in_ok-right.ensures.wrote in
+    let rm = mean_ranged old c.args.lefts.now c.args.rights.now L R O r M in
+    let rl = left_ranged old c.args.lefts.now c.args.rights.now L R O r M in
+    let rr = right_ranged old c.args.lefts.now c.args.rights.now L R O r M in
+    let a : to_z w32 (of_z w32 r.left) ≡ r.left = omega (arith, ints) in
+    let b : to_z w32 (of_z w32 r.right) ≡ r.right = omega (arith, ints) in
+    open_row old c.args.lefts.now c.args.rights.now L R O r M c.draw.new.self G _ c.draw-2.new.self H (omega (arith, ints)) refl
+    (is ∙ ap (λ (v : ℤ). made_wall v old.used (length (corners_of (branch L R) Left))) a)
+    (is' ∙ ap (λ (v : ℤ). made_wall v c.draw.new.self.used (length (corners_of (branch L R) Right))) b)

@@ -5,13 +5,9 @@ use Rattle.theory.specs.Figures.{switch}
 use Rattle.thermographs.proofs.Worked.{score, threat_fair, threat_rows}
 use Rattle.thermographs.proofs.tests.five_two.Goals as goal
 
-pub figure_rows-requires : goal.figure_rows-requires
-figure_rows-requires c c' = record {
-  seated = (
-    switch (switch (ended (pos 5)) (ended (pos 2))) (ended (pos 0)),
-    threat_fair (pos 5) (pos 2) (pos 0) (score 5 (omega arith)) (score 2 (omega arith)) (score 0 (omega arith)) (omega (arith, ints)) (omega (arith, ints)),
-    threat_rows (pos 5) (pos 2) (pos 0),
-  );
-  rows = omega arith;
-  room = (omega arith, omega arith);
-}
+pub figure_rows-requires-clause-seated : goal.figure_rows-requires-clause-seated
+figure_rows-requires-clause-seated c c' = (
+  switch (switch (ended (pos 5)) (ended (pos 2))) (ended (pos 0)),
+  threat_fair (pos 5) (pos 2) (pos 0) (score 5 (omega arith)) (score 2 (omega arith)) (score 0 (omega arith)) (omega (arith, ints)) (omega (arith, ints)),
+  threat_rows (pos 5) (pos 2) (pos 0),
+)
