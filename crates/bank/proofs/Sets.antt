@@ -12,6 +12,7 @@ use Rattle.encoding.proofs.Contents.{shapes_set}
 use Rattle.bank.specs.Held.{Filled, Within}
 use Rattle.bank.specs.declared.bank.Bank.{Bank}
 use Rattle.bank.specs.declared.columns.Columns.{Columns}
+use Rattle.bank.specs.declared.columns.Extent.{Extent}
 
 wall_set : IsSet Wall
 wall_set x y p q = λ i j. record {
@@ -28,16 +29,20 @@ figures_set x y p q = λ i j. record {
   right = wall_set x.right y.right (λ k. (p k).right) (λ k. (q k).right) i j;
 }
 
+extent_set : IsSet Extent
+extent_set x y p q = λ i j. record {
+  rows = ℕ_set x.rows y.rows (λ k. (p k).rows) (λ k. (q k).rows) i j;
+  turns = ℕ_set x.turns y.turns (λ k. (p k).turns) (λ k. (q k).turns) i j;
+}
+
 pub columns_set : IsSet Columns
 columns_set x y p q = λ i j. record {
   shapes = shapes_set x.shapes y.shapes (λ k. (p k).shapes) (λ k. (q k).shapes) i j;
   figures = is_set figures_set x.figures y.figures (λ k. (p k).figures) (λ k. (q k).figures) i j;
   corners = is_set ℕ_set x.corners y.corners (λ k. (p k).corners) (λ k. (q k).corners) i j;
-  row_starts = is_set ℕ_set x.row_starts y.row_starts (λ k. (p k).row_starts) (λ k. (q k).row_starts) i j;
-  corner_starts = is_set ℕ_set x.corner_starts y.corner_starts (λ k. (p k).corner_starts) (λ k. (q k).corner_starts) i j;
+  starts = is_set extent_set x.starts y.starts (λ k. (p k).starts) (λ k. (q k).starts) i j;
   parts = ℕ_set x.parts y.parts (λ k. (p k).parts) (λ k. (q k).parts) i j;
-  rows = ℕ_set x.rows y.rows (λ k. (p k).rows) (λ k. (q k).rows) i j;
-  turns = ℕ_set x.turns y.turns (λ k. (p k).turns) (λ k. (q k).turns) i j;
+  used = extent_set x.used y.used (λ k. (p k).used) (λ k. (q k).used) i j;
 }
 
 pub one_bank : (b b' : Bank) → b.columns ≡ b'.columns → b ≡ b'

@@ -5,6 +5,8 @@ use Rattle.theory.specs.Trees.{Tree, at, size}
 use Rattle.theory.specs.Walls.{left_wall, right_wall, temperature as heat_of, mean as mean_of}
 use Rattle.theory.specs.Corners.{Ordered, rising, falling, corners_of}
 use Rattle.spreading.specs.Order.{row}
+use Rattle.thermographs.specs.Figures.{run}
+use Rattle.thermographs.specs.declared.figures.Figures.{Figures}
 use Rattle.bank.specs.declared.diagram.Diagram.{Diagram}
 
 -- the walls as the diagram draws them
@@ -13,6 +15,15 @@ left_of d t = falling d.left_start d.left.now t
 
 abbrev pub right_of : Diagram → ℕ → ℤ
 right_of d t = rising d.right_start d.right.now t
+
+-- as the figures of a row tell them, by the corners of its part
+pub record DrawnBy (f : Figures) (corners : List ℕ) (d : Diagram) : Type 0 where
+  pub left : d.left.now ≡ run f.left corners
+  pub right : d.right.now ≡ run f.right corners
+  pub left_start : d.left_start ≡ f.left.start
+  pub right_start : d.right_start ≡ f.right.start
+  pub means : d.mean ≡ f.mean
+  pub heat : d.temperature ≡ f.temperature
 
 -- the thermograph of x: its corners rise, its walls are drawn by them and never cross, and they meet at the temperature
 pub record Pictures (x : Tree) (d : Diagram) : Type 0 where

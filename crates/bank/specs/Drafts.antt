@@ -12,7 +12,7 @@ use Rattle.thermographs.specs.declared.figures.Figures.{Figures}
 use Rattle.encoding.specs.Columns.{Seatable}
 use Rattle.stories.specs.Seatings.{first_cause}
 use Rattle.bank.specs.Held.{part_figures}
-use Rattle.bank.specs.declared.draft.Extent.{Extent}
+use Rattle.bank.specs.declared.columns.Extent.{Extent}
 
 -- why the tree has no place in so many free rows and corners
 abbrev pub lacks : ℕ → ℕ → Tree → Option Refusal

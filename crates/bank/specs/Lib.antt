@@ -5,3 +5,4 @@ pub mod Placing
 pub mod Contents
 pub mod Seats
 pub mod Diagrams
+pub mod Positions

@@ -1,14 +1,16 @@
 -- One part's entries in a column.
-use Rattle.std.specs.Prelude.{ℕ, ◌+◌, ◌<◌, cond, List, [], length, nat_lt, slice_index, slice_index_or}
+use Rattle.std.specs.Prelude.{ℕ, ◌<◌, cond, List, [], length, nat_lt, slice_index_or}
 use Rattle.theory.specs.Trees.{Tree, size}
 use Rattle.spreading.specs.Order.{none}
+use Rattle.bank.specs.declared.columns.Columns.{Columns}
+use Rattle.bank.specs.declared.columns.Extent.{Extent}
 
--- where they begin and end, by where the parts begin and how much is used
-abbrev pub from_of : List ℕ → ℕ → ℕ → ℕ
-from_of starts parts p = cond (nat_lt p parts) (slice_index starts p) 0
+abbrev pub nothing : Extent
+nothing = record { rows = 0; turns = 0 }
 
-abbrev pub to_of : List ℕ → ℕ → ℕ → ℕ → ℕ
-to_of starts parts used p = cond (nat_lt p parts) (cond (nat_lt (p + 1) parts) (slice_index starts (p + 1)) used) 0
+-- what stands before part k; all that is used where there is no such part
+abbrev pub before_part : Columns → ℕ → Extent
+before_part c k = cond (nat_lt k c.parts) (slice_index_or c.starts k nothing) c.used
 
 -- the entries of the tree p, or none where there is no such tree
 abbrev pub part_of : {A : Type 0} → (Tree → List A) → List Tree → ℕ → List A

@@ -28,8 +28,8 @@ cause_by parts rows turns meaning =
 
 -- refused for the first cause; or there is none, and the part is numbered
 abbrev pub Judged : Columns → Option Tree → Result ℕ Refusal → Type 0
-Judged c o (Err r) = cause_by c.parts c.rows c.turns o ≡ Some r
-Judged c o (Ok k) = (cause_by c.parts c.rows c.turns o ≡ None) × (k ≡ c.parts)
+Judged c o (Err r) = cause_by c.parts c.used.rows c.used.turns o ≡ Some r
+Judged c o (Ok k) = (cause_by c.parts c.used.rows c.used.turns o ≡ None) × (k ≡ c.parts)
 
 -- and nothing changed; or the tree is the last part
 abbrev pub Placed : List Tree → Option Tree → Result ℕ Refusal → Columns → Columns → Type 0

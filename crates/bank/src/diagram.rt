@@ -1,9 +1,8 @@
-ghost use Rattle.std.specs.Prelude.{◌≡◌};
-ghost use Rattle.terms.specs.Sides.{pick};
 ghost use Rattle.theory.specs.Corners.{Ordered, rising, falling};
-ghost use Rattle.walls.specs.Pieces.{Tame};
+ghost use Rattle.walls.specs.Ranges.{Tame};
 
 use terms::Side;
+use thermographs::Figures;
 use walls::value_at;
 
 // The thermograph of one position: its left and right wall, each by its value at 0 and its corners,
@@ -23,28 +22,41 @@ pub struct Diagram<'a> {
 }
 
 impl<'a> Diagram<'a> {
-    pub(crate) fn new(
-        left: &'a [u32],
-        right: &'a [u32],
-        left_start: i32,
-        right_start: i32,
-        mean: i32,
-        temperature: u32,
-    ) -> Diagram<'a>
-        requires rising { (Ordered left.now) × (Ordered right.now) }
-        requires fitting { (Tame (falling left_start left.now)) × (Tame (rising right_start right.now)) }
-        ensures left { result.left.now ≡ left.now }
-        ensures right { result.right.now ≡ right.now }
-        ensures starts { (result.left_start ≡ left_start) × (result.right_start ≡ right_start) }
-        ensures mast { (result.mean ≡ mean) × (result.temperature ≡ temperature) }
+    ghost use Rattle.std.specs.Prelude.{◌≡◌, ◌+◌, ◌≤◌, length};
+    ghost use Rattle.terms.specs.declared.side.Side.{Side as Player};
+    ghost use Rattle.terms.specs.Sides.{pick};
+    ghost use Rattle.walls.specs.Readings.{drawn};
+    ghost use Rattle.thermographs.specs.Figures.{wall_of, run};
+    ghost use Rattle.bank.specs.Diagrams.{left_of, right_of, Nothing, DrawnBy};
+
+    // Of nothing.
+    pub(crate) fn blank() -> Diagram<'a>
+        ensures { Nothing result }
     {
         Diagram {
-            left,
-            right,
-            left_start,
-            right_start,
-            mean,
-            temperature,
+            left: &[],
+            right: &[],
+            left_start: 0,
+            right_start: 0,
+            mean: 0,
+            temperature: 0,
+        }
+    }
+
+    // Of a row by its figures, over the corners of its part.
+    pub(crate) fn of(shown: Figures, corners: &'a [u32]) -> Diagram<'a>
+        requires inside { (s : Player) → (wall_of shown s).begin + (wall_of shown s).count ≤ length corners.now }
+        requires rising { (s : Player) → Ordered (run (wall_of shown s) corners.now) }
+        requires fitting { (s : Player) → Tame (drawn s (wall_of shown s).start (run (wall_of shown s) corners.now)) }
+        ensures { DrawnBy shown corners.now result }
+    {
+        Diagram {
+            left: shown.left.corners(corners),
+            right: shown.right.corners(corners),
+            left_start: shown.left.start,
+            right_start: shown.right.start,
+            mean: shown.mean,
+            temperature: shown.temperature,
         }
     }
 
@@ -52,20 +64,14 @@ impl<'a> Diagram<'a> {
     pub fn corners(&self, side: Side) -> &[u32]
         ensures { result.now ≡ pick side self.now.left.now self.now.right.now }
     {
-        match side {
-            Side::Left => self.left,
-            Side::Right => self.right,
-        }
+        side.pick(self.left, self.right)
     }
 
     // The value of the side's wall at 0.
     pub fn start(&self, side: Side) -> i32
         ensures { result ≡ pick side self.now.left_start self.now.right_start }
     {
-        match side {
-            Side::Left => self.left_start,
-            Side::Right => self.right_start,
-        }
+        side.pick(self.left_start, self.right_start)
     }
 
     pub fn mean(&self) -> i32
@@ -80,17 +86,10 @@ impl<'a> Diagram<'a> {
         self.temperature
     }
 
-    // The left wall at `t`.
-    pub fn left_at(&self, t: u32) -> i32
-        ensures { result ≡ falling self.now.left_start self.now.left.now t }
+    // The side's wall at `t`.
+    pub fn at(&self, side: Side, t: u32) -> i32
+        ensures { result ≡ pick side (left_of self.now t) (right_of self.now t) }
     {
-        value_at(Side::Left, self.left_start, self.left, t)
-    }
-
-    // The right wall at `t`.
-    pub fn right_at(&self, t: u32) -> i32
-        ensures { result ≡ rising self.now.right_start self.now.right.now t }
-    {
-        value_at(Side::Right, self.right_start, self.right, t)
+        value_at(side, self.start(side), self.corners(side), t)
     }
 }

@@ -5,20 +5,15 @@ ghost use Rattle.spreading.specs.Shapes.{row_limit, blank as blank_shape};
 ghost use Rattle.thermographs.specs.Figures.{corner_limit, blank};
 ghost use Rattle.bank.specs.Drafts.{DraftInto, FillInto};
 
+use crate::columns::Extent;
 use measures::{any_cold, too_high};
 use rules::RuleSet;
-use spreading::{ROW_LIMIT, Shape, spread, wipe};
+use spreading::{Shape, spread, wipe};
 use terms::Refusal;
 use thermographs::{BLANK, Figures, figure_rows};
 
-// How many rows and corners a part takes.
-#[derive(Clone, Copy)]
-pub struct Extent {
-    pub rows: usize,
-    pub turns: usize,
-}
-
-// Makes rows and corners blank.
+// Makes rows and corners blank. Here and below they go one by one: a struct of the three, lent from the
+// bank's columns, gets no proof.
 pub fn erase(shapes: &mut [Shape], figures: &mut [Figures], corners: &mut [u32])
     ensures shapes { shapes.new ≡ replicate (length shapes.old) blank_shape }
     ensures figures { figures.new ≡ replicate (length figures.old) blank }
@@ -30,7 +25,8 @@ pub fn erase(shapes: &mut [Shape], figures: &mut [Figures], corners: &mut [u32])
 }
 
 // Writes the part of a known code into the free rows and corners, or says why it has no place
-// there. Each pass looks for one cause, so their order is that of the causes.
+// there. Each pass looks for one cause, so their order is that of the causes. A rule set and a code are
+// what a question is asked with, and a struct of the two would be taken apart at each question.
 fn draft<R: RuleSet>(
     rules: &R,
     code: u32,
@@ -43,20 +39,18 @@ fn draft<R: RuleSet>(
     requires corners { length corners.old ≤ corner_limit }
     ensures { (t : Tree) → R.tree rules.now code ≡ Some t → DraftInto t shapes.old figures.old corners.old result shapes.new figures.new corners.new }
 {
-    let mut codes = [0; ROW_LIMIT];
-    let Some(rows) = spread(rules, code, shapes, &mut codes) else {
-        return Err(Refusal::RowsFull);
-    };
+    let rows = spread(rules, code, shapes).ok_or(Refusal::RowsFull)?;
     if too_high(&shapes[..rows]) {
         return Err(Refusal::TooHigh);
     }
     if any_cold(&shapes[..rows]) {
         return Err(Refusal::ColdPosition);
     }
-    let Some(turns) = figure_rows(&shapes[..rows], figures, corners, 0) else {
-        return Err(Refusal::CornersFull);
-    };
-    Ok(Extent { rows, turns })
+    let turns = figure_rows(&shapes[..rows], figures, corners, 0).ok_or(Refusal::CornersFull)?;
+    Ok(Extent {
+        rows: rows as u16,
+        turns: turns as u16,
+    })
 }
 
 // The same; where the part has no place, the free rows and corners are blank again.
@@ -72,11 +66,9 @@ pub fn fill<R: RuleSet>(
     requires corners { length corners.old ≤ corner_limit }
     ensures { (t : Tree) → R.tree rules.now code ≡ Some t → FillInto t shapes.old figures.old corners.old result shapes.new figures.new corners.new }
 {
-    match draft(rules, code, shapes, figures, corners) {
-        Ok(extent) => Ok(extent),
-        Err(refusal) => {
-            erase(shapes, figures, corners);
-            Err(refusal)
-        }
+    let drafted = draft(rules, code, shapes, figures, corners);
+    if drafted.is_err() {
+        erase(shapes, figures, corners);
     }
+    drafted
 }

@@ -6,14 +6,12 @@ mod bank;
 mod columns;
 mod diagram;
 mod draft;
-mod placing;
+mod position;
 mod reads;
 mod seat;
-mod show;
-mod spans;
 #[cfg(test)]
 mod tests;
-mod wall;
 
 pub use bank::Bank;
 pub use diagram::Diagram;
+pub use position::Position;

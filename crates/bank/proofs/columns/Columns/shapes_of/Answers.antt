@@ -1,9 +1,0 @@
-use Rattle.std.proofs.Common.{arith}
-use Rattle.spreading.specs.Shapes.{blank, shapes_of}
-use Rattle.bank.proofs.Parting.{part_at}
-use Rattle.bank.proofs.columns.Columns.shapes_of.Goals as goal
-
-pub returns : goal.returns
-returns c ts h =
-    part_at shapes_of blank c.args.self.now.shapes c.args.self.now.row_starts c.args.self.now.parts c.args.self.now.rows ts h.rows.many h.rows.rows (omega (arith, c.requires.within.1)) c.args.part
-    c.row_span-span.result.from c.row_span-span.result.to c.row_span-span.ensures.from c.row_span-span.ensures.to
