@@ -62,10 +62,11 @@ floor_by_lem s a xs d v Ours h e = sym (here_gain s a xs d v e)
 floor_by_lem s a xs d v Theirs h e = refl
 floor_by_lem s a xs d v Over h e = ended_near s a xs (shut_ended xs (h refl))
 
-pub floor_so : (y : Play) (nears : List ℤ) (gain r : ℤ) → r ≡ floor_by y.turn (sum_z nears) gain y.ambient → FloorIs y nears gain r
-floor_so y nears gain r e ts s S n g =
+pub floor_so : (y : Play) (nears : List ℤ) (gain r : ℤ) (t : Turn) → y.turn ≡ t → r ≡ floor_by t (sum_z nears) gain y.ambient → FloorIs y nears gain r
+floor_so y nears gain r t i e ts s S n g =
     let xs : List Tree = present ts y.rows in
-    e ∙ ap (λ w. floor_by y.turn w gain y.ambient) (sum_is (near s y.ambient) xs nears n) ∙ floor_by_lem s y.ambient xs y.pending gain y.turn S.over g
+    e ∙ ap (λ u. floor_by u (sum_z nears) gain y.ambient) (sym i)
+    ∙ ap (λ w. floor_by y.turn w gain y.ambient) (sum_is (near s y.ambient) xs nears n) ∙ floor_by_lem s y.ambient xs y.pending gain y.turn S.over g
 
 -- ---- the bracket
 mean_heat : (xs : List Tree) (b : Bool) → any_open xs ≡ b → unwrap_or (cond b (Some (hottest xs)) None) 0 ≡ hottest xs
@@ -81,10 +82,11 @@ bracket_by_lem s xs Ours h = for_side s xs
 bracket_by_lem s xs Theirs h = for_side (other s) xs
 bracket_by_lem s xs Over h = ap {B = ℤ × ℤ} (λ v. (v, v)) (ended_means xs (shut_ended xs (h refl)))
 
-pub bracket_so : (y : Play) (s : Side) (means : List ℤ) (h : Option ℕ) (r : ℤ × ℤ) → r ≡ bracket_to y.turn s (sum_z means) (unwrap_or h 0) → BracketIs y s means h r
-bracket_so y s means h r e ts S m q =
+pub bracket_so : (y : Play) (s : Side) (means : List ℤ) (h : Option ℕ) (r : ℤ × ℤ) (t : Turn) → y.turn ≡ t → r ≡ bracket_to t s (sum_z means) (unwrap_or h 0) → BracketIs y s means h r
+bracket_so y s means h r t i e ts S m q =
     let xs : List Tree = present ts y.rows in
     e
+    ∙ ap (λ u. bracket_to u s (sum_z means) (unwrap_or h 0)) (sym i)
     ∙ ap (λ v. bracket_to y.turn s v (unwrap_or h 0)) (sum_is mean xs means m)
     ∙ ap (bracket_to y.turn s (sum_of mean xs)) (ap (λ o. unwrap_or o 0) q ∙ mean_heat xs (any_open xs) refl)
     ∙ bracket_by_lem s xs y.turn S.over

@@ -1,16 +1,14 @@
 -- The loops that keep the greatest so far: what they find is the first of the greatest.
-use Rattle.std.proofs.Common.{◌≡◌, ℕ, zero, suc, ◌+◌, ◌<◌, ◌≤◌, cond, not, T, leb, ◌⊎◌, List, [], ◌∷◌, map, length, get_or, ℤ, pos, ◌≤ℤ◌, ◌<ℤ◌, Some, None, Option, sym, refl, ap, ◌∙◌, subst, inl, inr, arith, leb→le}
-use native.Mathlib.Decide.{dec_lt}
-use lib.Dec.{nleb→lt}
+use Rattle.std.proofs.Common.{◌≡◌, ℕ, zero, suc, ◌<◌, ◌≤◌, List, [], ◌∷◌, map, length, get_or, ℤ, pos, ◌≤ℤ◌, ◌<ℤ◌, Some, None, Option, sym, refl, ap, ◌∙◌, subst, arith}
 use borrow.Author.Differences.{ints}
-use Rattle.std.proofs.lemmas.Bool.{cases_Bool}
+use Rattle.std.proofs.lemmas.List.{length-map}
 use Rattle.theory.specs.Trees.{Tree, ended, branch, at, Open, Ended}
 use Rattle.theory.specs.Walls.{temperature}
 use Rattle.theory.specs.Sums.{hottest, All}
 use Rattle.stories.proofs.Places.{none_some, some_same}
 use Rattle.stories.proofs.Moves.{all_shut, hottest_under, open_under, over_hottest}
 use Rattle.play.specs.Standing.{heat_of}
-use Rattle.play.specs.Leads.{lead, keep_of, Foremost, Front, HottestOf, Hottest}
+use Rattle.play.specs.Leads.{Foremost, Front, HottestOf, Hottest}
 use Rattle.play.specs.Answers.{BestOption}
 use Rattle.play.specs.declared.leads.Lead.{Lead}
 
@@ -29,54 +27,6 @@ pub map_at : {A B : Type 0} (f : A → B) (xs : List A) (p : ℕ) (x : A) (d : B
 map_at f [] p x d e = none_some x e
 map_at f (y ∷ xs) zero x d e = ap f (some_same y x e)
 map_at f (y ∷ xs) (suc p) x d e = map_at f xs p x d e
-
-pub map_long : {A B : Type 0} (f : A → B) (xs : List A) → length (map f xs) ≡ length xs
-map_long f [] = refl
-map_long f (x ∷ xs) = ap suc (map_long f xs)
-
--- ---- the hottest so far
-upto : (i j : ℕ) → j < i + 1 → (j < i) ⊎ (j ≡ i)
-upto i j h = elim (dec_lt j i) [ yes l ↦ inl l | no n ↦ inr (omega arith) ]
-
-none_more : (hs : List (Option ℕ)) (i : ℕ) → get_or hs i None ≡ None → Front hs i None → Front hs (i + 1) None
-none_more hs i e F j h = elim (upto i j h) [ inl l ↦ F j l | inr q ↦ ap (λ n. get_or hs n None) q ∙ e ]
-
-same_heat : (hs : List (Option ℕ)) (i j x t : ℕ) → get_or hs i None ≡ Some x → j ≡ i → get_or hs j None ≡ Some t → x ≡ t
-same_heat hs i j x t e q h = some_same x t (sym e ∙ ap (λ n. get_or hs n None) (sym q) ∙ h)
-
--- the leader stays
-stays : (hs : List (Option ℕ)) (i : ℕ) (b : Lead) → ((t : ℕ) → get_or hs i None ≡ Some t → t ≤ b.heat) → Foremost hs i b → Foremost hs (i + 1) b
-stays hs i b k F = record {
-  within = omega (arith, F.within);
-  there = F.there;
-  most = λ j t h e. elim (upto i j h) [ inl l ↦ F.most j t l e | inr q ↦ k t (ap (λ n. get_or hs n None) (sym q) ∙ e) ];
-  lowest = F.lowest;
-}
-
--- the part i takes the lead
-takes : (hs : List (Option ℕ)) (i x : ℕ) → get_or hs i None ≡ Some x → ((j t : ℕ) → j < i → get_or hs j None ≡ Some t → t < x) → Foremost hs (i + 1) (lead i x)
-takes hs i x e k = record {
-  within = omega arith;
-  there = e;
-  most = λ j t h f. elim (upto i j h) [ inl l ↦ omega (arith, k j t l f) | inr q ↦ omega (arith, same_heat hs i j x t e q f) ];
-  lowest = k;
-}
-
-pub front_more : (hs : List (Option ℕ)) (i : ℕ) (best : Option Lead) (x : Option ℕ) → get_or hs i None ≡ x → Front hs i best → Front hs (i + 1) (keep_of best i x)
-front_more hs i None None e F = none_more hs i e F
-front_more hs i (Some b) None e F = stays hs i b (λ t f. none_some t (sym e ∙ f)) F
-front_more hs i None (Some x) e F = takes hs i x e (λ j t l f. none_some t (sym (F j l) ∙ f))
-front_more hs i (Some b) (Some x) e F =
-    elim (cases_Bool (leb x b.heat)) [
-      | inl q ↦
-          let le : x ≤ b.heat = leb→le x b.heat (subst T (sym q) tt) in
-          subst (λ c. Front hs (i + 1) (cond c (Some b) (Some (lead i x)))) (sym q)
-          (stays hs i b (λ t f. let same = some_same x t (sym e ∙ f) in omega arith) F)
-      | inr q ↦
-          let lt : b.heat < x = nleb→lt x b.heat (subst (λ c. T (not c)) (sym q) tt) in
-          subst (λ c. Front hs (i + 1) (cond c (Some b) (Some (lead i x)))) (sym q)
-          (takes hs i x e (λ j t l f. omega (arith, F.most j t l f)))
-    ]
 
 -- ---- of the trees
 open_heat : (x : Tree) → Open x → heat_of x ≡ Some (temperature x)
@@ -119,7 +69,7 @@ by_front xs (Some b) F = first_hottest xs b F
 
 pub hottest_so : (hs : List (Option ℕ)) (n : ℕ) (r : Option Lead) → n ≡ length hs → Front hs n r → Hottest hs r
 hottest_so hs n r l F xs e =
-    by_front xs r (subst (λ m. Front (map heat_of xs) m r) (l ∙ ap length e ∙ map_long heat_of xs) (subst (λ ks. Front ks n r) e F))
+    by_front xs r (subst (λ m. Front (map heat_of xs) m r) (l ∙ ap length e ∙ length-map xs heat_of) (subst (λ ks. Front ks n r) e F))
 
 -- ---- the greatest near wall
 pub record Top (vs : List ℤ) (n k : ℕ) : Type 0 where
@@ -129,7 +79,7 @@ pub record Top (vs : List ℤ) (n k : ℕ) : Type 0 where
 
 pub top_so : (vs : List ℤ) (n k : ℕ) → n ≡ length vs → Top vs n k → BestOption vs k
 top_so vs n k l W xs f e =
-    let long : length vs ≡ length xs = ap length e ∙ map_long f xs in
+    let long : length vs ≡ length xs = ap length e ∙ length-map xs f in
     let (x, q) = there_at xs k (omega (arith, W.within)) in
     let read : (j : ℕ) (y : Tree) → at xs j ≡ Some y → get_or vs j (pos 0) ≡ f y = λ j y h. ap (λ ws. get_or ws j (pos 0)) e ∙ map_at f xs j y (pos 0) h in
     record {

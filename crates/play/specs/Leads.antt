@@ -1,5 +1,5 @@
 -- The hottest part, by the temperatures of the parts; an ended part has none.
-use Rattle.std.specs.Prelude.{◌≡◌, ℕ, ◌<◌, ◌≤◌, false, cond, List, map, get_or, Some, None, Option, nat_le, slice_index_or}
+use Rattle.std.specs.Prelude.{◌≡◌, ℕ, ◌<◌, ◌≤◌, false, List, map, get_or, Some, None, Option, slice_index_or}
 use Rattle.theory.specs.Trees.{Tree, Open}
 use Rattle.theory.specs.Sums.{hottest}
 use Rattle.stories.specs.Game.{First, heat, any_open}
@@ -8,12 +8,6 @@ use Rattle.play.specs.declared.leads.Lead.{Lead}
 
 abbrev pub lead : ℕ → ℕ → Lead
 lead p t = record { part = p; heat = t }
-
--- the leader once the part p has come by
-abbrev pub keep_of : Option Lead → ℕ → Option ℕ → Option Lead
-keep_of best p None = best
-keep_of None p (Some t) = Some (lead p t)
-keep_of (Some b) p (Some t) = cond (nat_le t b.heat) (Some b) (Some (lead p t))
 
 -- of the first n temperatures b is the greatest, at the lowest number
 pub record Foremost (hs : List (Option ℕ)) (n : ℕ) (b : Lead) : Type 0 where

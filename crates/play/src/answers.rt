@@ -1,13 +1,14 @@
 ghost use Rattle.std.specs.Prelude.{◌≡◌, ◌^◌, ◌<◌, ◌≤◌, length, pos, neg_ℤ, ◌≤ℤ◌};
 ghost use Rattle.encoding.specs.Columns.{part_limit};
-ghost use Rattle.play.specs.Answers.{sum_z, floor_by, bracket_by, bracket_to, advised_by, FloorIs, BracketIs, PartIs, BestOption};
+ghost use Rattle.play.specs.Answers.{sum_z, bracket_by, advised_by, FloorIs, BracketIs, PartIs, BestOption};
 
 use crate::leads::Lead;
 use crate::record::Play;
 use stories::Turn;
 use terms::{Refusal, Side};
 
-// The sum of a figure of each part.
+// The sum of a figure of each part. (The library's `sum` of signed numbers asks at the call that
+// each run of figures fits, so the proof would be longer than the loop.)
 fn sum(figures: &[i32]) -> i64
     requires { length figures.now ≤ part_limit }
     ensures sum { result ≡ sum_z figures.now }
@@ -25,10 +26,8 @@ fn bracket_for(mover: Side, mean: i64, heat: u32) -> (i64, i64)
     requires { (mean ≤ℤ pos (2 ^ 40)) × (neg_ℤ (pos (2 ^ 40)) ≤ℤ mean) }
     ensures { (result.0, result.1) ≡ bracket_by mover mean heat }
 {
-    match mover {
-        Side::Left => (mean, mean + heat as i64),
-        Side::Right => (mean - heat as i64, mean),
-    }
+    let heat = heat as i64;
+    mover.pick((mean, mean + heat), (mean - heat, mean))
 }
 
 impl Play {
@@ -38,13 +37,7 @@ impl Play {
         requires { length nears.now ≤ part_limit }
         ensures { FloorIs self.now nears.now gain result }
     {
-        self.floor_from(sum(nears), gain)
-    }
-
-    fn floor_from(&self, walls: i64, gain: i32) -> i64
-        requires { (walls ≤ℤ pos (2 ^ 40)) × (neg_ℤ (pos (2 ^ 40)) ≤ℤ walls) }
-        ensures { result ≡ floor_by self.now.turn walls gain self.now.ambient }
-    {
+        let walls = sum(nears);
         match self.turn {
             Turn::Ours => walls + gain as i64,
             Turn::Theirs => walls - self.ambient as i64,
@@ -58,13 +51,8 @@ impl Play {
         requires { length means.now ≤ part_limit }
         ensures { BracketIs self.now side means.now hottest (result.0, result.1) }
     {
-        self.bracket_from(side, sum(means), hottest.unwrap_or(0))
-    }
-
-    fn bracket_from(&self, side: Side, mean: i64, heat: u32) -> (i64, i64)
-        requires { (mean ≤ℤ pos (2 ^ 40)) × (neg_ℤ (pos (2 ^ 40)) ≤ℤ mean) }
-        ensures { (result.0, result.1) ≡ bracket_to self.now.turn side mean heat }
-    {
+        let mean = sum(means);
+        let heat = hottest.unwrap_or(0);
         match self.turn {
             Turn::Ours => bracket_for(side, mean, heat),
             Turn::Theirs => bracket_for(side.other(), mean, heat),
@@ -76,22 +64,20 @@ impl Play {
     pub fn advised_part(&self, hottest: Option<Lead>) -> Result<usize, Refusal>
         ensures { PartIs self.now hottest result }
     {
-        self.part_from(hottest)
-    }
-
-    fn part_from(&self, hottest: Option<Lead>) -> Result<usize, Refusal>
-        ensures { result ≡ advised_by self.now.turn self.now.pending hottest }
-    {
-        match (self.turn, self.pending, hottest) {
-            (Turn::Theirs, _, _) => Err(Refusal::NotOurTurn),
-            (Turn::Ours, Some(part), _) => Ok(part as usize),
-            (Turn::Ours, None, Some(lead)) => Ok(lead.part),
-            (_, _, _) => Err(Refusal::GameOver),
+        match self.turn {
+            Turn::Ours => self
+                .pending
+                .map(|part| part as usize)
+                .or(hottest.map(|lead| lead.part))
+                .ok_or(Refusal::GameOver),
+            Turn::Theirs => Err(Refusal::NotOurTurn),
+            Turn::Over => Err(Refusal::GameOver),
         }
     }
 }
 
 // Of the near walls of our options, the number of the greatest, the lowest number among equals.
+// (A chain finds the first among equals only when it is turned round.)
 pub fn best_option(nears: &[i32]) -> usize
     requires { 0 < length nears.now }
     ensures { BestOption nears.now result }

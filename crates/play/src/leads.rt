@@ -1,5 +1,4 @@
-ghost use Rattle.std.specs.Prelude.{◌≡◌};
-ghost use Rattle.play.specs.Leads.{keep_of, Hottest};
+ghost use Rattle.play.specs.Leads.{Hottest};
 
 // The part that leads, and its temperature.
 #[derive(Clone, Copy)]
@@ -8,27 +7,19 @@ pub struct Lead {
     pub heat: u32,
 }
 
-// The leader once `part` has come by: it takes the lead where it is hotter.
-fn keep(best: Option<Lead>, part: usize, heat: Option<u32>) -> Option<Lead>
-    ensures { result ≡ keep_of best part heat }
-{
-    let Some(t) = heat else {
-        return best;
-    };
-    match best {
-        Some(lead) if t <= lead.heat => best,
-        _ => Some(Lead { part, heat: t }),
-    }
-}
-
 // The open part of greatest temperature, the lowest number among equals. An ended part has no
-// temperature.
+// temperature. A loop over the parts with their number, which shows who keeps the lead among equals; a
+// chain's maximum hides that.
 pub fn hottest(heats: &[Option<u32>]) -> Option<Lead>
     ensures { Hottest heats.now result }
 {
-    let mut best = None;
-    for (i, heat) in heats.iter().enumerate() {
-        best = keep(best, i, *heat);
+    let mut best: Option<Lead> = None;
+    for (part, heat) in heats.iter().enumerate() {
+        if let Some(heat) = *heat
+            && best.is_none_or(|lead| lead.heat < heat)
+        {
+            best = Some(Lead { part, heat });
+        }
     }
     best
 }

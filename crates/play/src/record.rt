@@ -1,6 +1,5 @@
 ghost use Rattle.std.specs.Prelude.{◌≡◌, replicate};
 ghost use Rattle.encoding.specs.Columns.{part_limit};
-ghost use Rattle.stories.specs.Game.{turn_of};
 ghost use Rattle.play.specs.Record.{turn_by, hotter_than, cooled_by, at_first, after, answer, Inside, Kept, rows_after};
 ghost use Rattle.play.specs.Standing.{Opens, OurMove, TheirReply};
 
@@ -9,7 +8,7 @@ use stories::Turn;
 use terms::{Mover, Refusal};
 
 // A play as it stands: the present row of each part, the turn, the ambient, and the part in which
-// they have made a threat, if there is one.
+// they have made a threat, if there is one. A bank's parts have a limit, so the rows need no heap.
 #[derive(Clone, Copy)]
 pub struct Play {
     pub rows: [u16; PART_LIMIT],
@@ -39,39 +38,21 @@ pub struct Landing {
 fn turn_to(turn: Turn, hottest: Option<u32>) -> Turn
     ensures { result ≡ turn_by turn hottest }
 {
-    match hottest {
-        Some(_) => turn,
-        None => Turn::Over,
-    }
-}
-
-fn first_turn(first: Mover) -> Turn
-    ensures { result ≡ turn_of first }
-{
-    match first {
-        Mover::Ours => Turn::Ours,
-        Mover::Theirs => Turn::Theirs,
-    }
+    hottest.map_or(Turn::Over, |_| turn)
 }
 
 // Whether a position of this temperature is hotter than the ambient.
 fn hotter(heat: Option<u32>, ambient: u32) -> bool
     ensures { result ≡ hotter_than ambient heat }
 {
-    match heat {
-        Some(t) => ambient < t,
-        None => false,
-    }
+    heat.is_some_and(|t| ambient < t)
 }
 
 // What the ambient falls to while play goes on.
 fn cooled(ambient: u32, hottest: Option<u32>) -> u32
     ensures { result ≡ cooled_by ambient hottest }
 {
-    match hottest {
-        Some(t) => { if t < ambient { t } else { ambient } }
-        None => ambient,
-    }
+    hottest.map_or(ambient, |t| ambient.min(t))
 }
 
 impl Play {
@@ -80,7 +61,7 @@ impl Play {
         ensures game { Opens first hottest result }
         ensures rows { result.rows ≡ replicate part_limit 0 }
     {
-        Play::at_first_rows(turn_to(first_turn(first), hottest), hottest.unwrap_or(0))
+        Play::at_first_rows(turn_to(Turn::from(first), hottest), hottest.unwrap_or(0))
     }
 
     fn at_first_rows(turn: Turn, ambient: u32) -> Play
@@ -95,6 +76,7 @@ impl Play {
     }
 
     // What an event does. `landing` is where it leads, or why the part or the option is refused.
+    // Turn and event are matched together, so that all that may happen stands in one place.
     fn apply(&mut self, event: Event, landing: Result<Landing, Refusal>) -> Result<(), Refusal>
         requires { Inside landing }
         ensures play { self.new ≡ after self.old event landing }
@@ -126,7 +108,8 @@ impl Play {
         }
     }
 
-    // Our move. A refused one leaves the record as it was, and so does a refused reply.
+    // Our move. A refused one leaves the record as it was, and so does a refused reply. The two differ in
+    // the event alone, and each is a call of its own.
     pub fn our_move(&mut self, landing: Result<Landing, Refusal>) -> Result<(), Refusal>
         requires { Inside landing }
         ensures game { OurMove self.old landing self.new result }
