@@ -8,11 +8,15 @@ use Rattle.sheet.specs.declared.page.Page.{Page}
 use Rattle.sheet.specs.Page.{line, said, Room, Adds}
 
 pub adds_none : (p : Page) → Adds [] p p
-adds_none p = record { says = sym (append-nil (said p)); used = omega arith }
+adds_none p = record { says = sym (append-nil (said p)) }
 
 pub adds_more : {xs ys : List ℕ} {p q r : Page} → Adds xs p q → Adds ys q r → Adds (xs ++ ys) p r
 adds_more {xs} {ys} {p} a b =
-    record { says = b.says ∙ (ap (λ t. t ++ ys) a.says ∙ append_assoc (said p) xs ys); used = omega (arith, length-append xs ys) }
+    record { says = b.says ∙ (ap (λ t. t ++ ys) a.says ∙ append_assoc (said p) xs ys) }
+
+-- how long a page's text then is
+pub longer : {xs : List ℕ} {p q : Page} → Adds xs p q → length (said q) ≡ length (said p) + length xs
+longer {xs} {p} a = ap length a.says ∙ length-append (said p) xs
 
 pub adds_as : {xs ys : List ℕ} {p q : Page} → xs ≡ ys → Adds xs p q → Adds ys p q
 adds_as {xs} {ys} {p} {q} e a = subst (λ t. Adds t p q) e a
@@ -29,7 +33,7 @@ pub room_first : (xs ys : List ℕ) {p : Page} → Room (xs ++ ys) p → Room xs
 room_first xs ys h = record { fits = omega (arith, length-append xs ys) }
 
 pub room_then : (xs ys : List ℕ) {p q : Page} → Room (xs ++ ys) p → Adds xs p q → Room ys q
-room_then xs ys h a = record { fits = omega (arith, length-append xs ys, a.used) }
+room_then xs ys h a = record { fits = omega (arith, length-append xs ys, longer a) }
 
 pub room_as : {xs ys : List ℕ} {p : Page} → xs ≡ ys → Room xs p → Room ys p
 room_as {p = p} e h = subst (λ t. Room t p) e h

@@ -4,6 +4,7 @@
 
 mod laws;
 mod page;
+mod say;
 #[cfg(test)]
 mod tests;
 mod values;

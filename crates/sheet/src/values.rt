@@ -9,7 +9,8 @@ pub struct PartLines {
     pub heat: Option<u32>,
 }
 
-// What a sheet says: the first `count` parts are its parts.
+// What a sheet says: the first `count` parts are its parts. They need no heap, since a bank's parts
+// have a limit. A sheet is Copy with public fields, which an ArrayVec is not.
 #[derive(Clone, Copy)]
 pub struct Sheet {
     pub side: Side,

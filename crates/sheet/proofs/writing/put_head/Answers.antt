@@ -11,27 +11,22 @@ put_line-requires c = room_first _ _ c.requires
 
 pub put_line-requires-2 : goal.put_line-requires-2
 unfolding head_text
-put_line-requires-2 c =
-    room_as (ap (line (codes "side=")) (sym c.side_name.ensures)) (room_first _ _ (room_then _ _ c.requires c.put_line.ensures))
+put_line-requires-2 c = room_first _ _ (room_then _ _ c.requires c.put_line.ensures)
 
 pub put_line-requires-3 : goal.put_line-requires-3
 unfolding head_text
-put_line-requires-3 c =
-    let side = adds_as (ap (line (codes "side=")) c.side_name.ensures) c.put_line-2.ensures in
-    room_as (ap (line (codes "turn=")) (sym c.turn_name.ensures)) (room_first _ _ (room_then _ _ (room_then _ _ c.requires c.put_line.ensures) side))
+put_line-requires-3 c = room_first _ _ (room_then _ _ (room_then _ _ c.requires c.put_line.ensures) c.put_line-2.ensures)
 
-pub put_count-requires : goal.put_count-requires
+pub put_line-requires-4 : goal.put_line-requires-4
 unfolding head_text
-put_count-requires c =
-    let side = adds_as (ap (line (codes "side=")) c.side_name.ensures) c.put_line-2.ensures in
-    let turn = adds_as (ap (line (codes "turn=")) c.turn_name.ensures) c.put_line-3.ensures in
+put_line-requires-4 c =
     room_as (ap (λ n. line (codes "parts=") (written n)) (sym c.from.ensures))
-    (room_then _ _ (room_then _ _ (room_then _ _ c.requires c.put_line.ensures) side) turn)
+    (room_then _ _ (room_then _ _ (room_then _ _ c.requires c.put_line.ensures) c.put_line-2.ensures) c.put_line-3.ensures)
 
 pub returns : goal.returns
 unfolding head_text
 returns c =
     adds_more c.put_line.ensures
-    (adds_more (adds_as (ap (line (codes "side=")) c.side_name.ensures) c.put_line-2.ensures)
-    (adds_more (adds_as (ap (line (codes "turn=")) c.turn_name.ensures) c.put_line-3.ensures)
-    (adds_as (ap (λ n. line (codes "parts=") (written n)) c.from.ensures) c.put_count.ensures)))
+    (adds_more c.put_line-2.ensures
+    (adds_more c.put_line-3.ensures
+    (adds_as (ap (λ n. line (codes "parts=") (written n)) c.from.ensures) c.put_line-4.ensures)))
