@@ -1,6 +1,6 @@
 -- A game after a call: it stands on rows, some story is behind it, and a refused call leaves it as it was.
 use mathlib.Core.HLevel.{is_prop→PathP}
-use Rattle.std.proofs.Common.{◌≡◌, ℕ, ◌<◌, ◌≤◌, List, length, get_or, replicate, Some, Ok, Err, Result, sym, refl, ap, subst, arith}
+use Rattle.std.proofs.Common.{◌≡◌, ℕ, ◌<◌, ◌≤◌, List, length, get_or, replicate, ℤ, Some, Ok, Err, Result, sym, refl, ap, ◌∙◌, subst, arith}
 use mathlib.Core.Logic.{∥∥₁_elim, ∥∥₁_prop}
 use native.Mathlib.Bridge.{le_prop}
 use std.HLevel.{Π_prop}
@@ -16,15 +16,18 @@ use Rattle.stories.specs.Calls.{move, reply}
 use Rattle.stories.specs.Stories.{◌then◌}
 use Rattle.bank.specs.declared.bank.Bank.{Bank}
 use Rattle.bank.specs.Contents.{trees}
-use Rattle.bank.specs.Parts.{There}
 use Rattle.play.specs.declared.record.Play.{Play}
 use Rattle.play.specs.declared.record.Landing.{Landing}
 use Rattle.play.specs.Record.{Inside, rows_after, Kept as Same}
+use Rattle.play.specs.Answers.{GainIs}
 use Rattle.play.specs.Standing.{Leads, OurMove, TheirReply}
 use Rattle.play.proofs.Tales.{play_told_lem}
 use Rattle.game.specs.declared.game.Game.{Game}
 use Rattle.game.specs.Rows.{position, OnRows, Storied, OnRow}
-use Rattle.game.specs.State.{state, Kept}
+use Rattle.game.specs.declared.present.Present.{Present}
+use Rattle.game.specs.Presents.{gain_in}
+use Rattle.game.specs.State.{state, parts_now, gain_of, Kept, PendingGains}
+use Rattle.game.proofs.Answered.{pending_there}
 use Rattle.game.proofs.Landings.{rows_set}
 use Rattle.game.proofs.Positions.{few_parts}
 use Rattle.game.proofs.Presents.{present_long, present_at}
@@ -55,11 +58,8 @@ pub long_after : (n : ℕ) (rows zs : List ℕ) (l : Result Landing Refusal) (r 
 long_after n rows zs l r wide e = omega (arith, ap length e, long_go rows l r)
 
 -- where a part stands
-pub part_now : (g : Game) (p : ℕ) → p < length (state g).parts → p < length (trees g.bank.now)
+part_now : (g : Game) (p : ℕ) → p < length (state g).parts → p < length (trees g.bank.now)
 part_now g p h = omega (arith, present_long (trees g.bank.now) g.play.rows g.enough)
-
-pub there_now : (g : Game) (p : ℕ) → p < length (state g).parts → There (trees g.bank.now) p (get_or g.play.rows p 0)
-there_now g p h = let lt = part_now g p h in record { part = lt; line = g.on_rows p lt }
 
 pub at_now : (g : Game) (p : ℕ) → p < length (state g).parts → at (state g).parts p ≡ Some (position (trees g.bank.now) p (get_or g.play.rows p 0))
 at_now g p h = present_at (trees g.bank.now) g.play.rows p g.enough (part_now g p h)
@@ -89,3 +89,18 @@ one_game g h b s e = λ i. record {
 pub kept_game : (g h : Game) (r : Result (Unit {0}) Refusal) → h.bank ≡ g.bank → h.side ≡ g.side → Same g.play h.play r → Kept g h r
 kept_game g h (Ok u) b s e = tt
 kept_game g h (Err n) b s e = one_game g h b s e
+
+pub one_present : (g : Game) (w : Present) → w.bank ≡ g.bank → w.rows ≡ g.play.rows → w ≡ parts_now g
+one_present g w b e = λ i. record {
+  bank = b i;
+  rows = e i;
+  enough = is_prop→PathP (λ j. length (trees (b j).now) ≤ length (e j)) (λ j. le_prop) w.enough g.enough i;
+  on_rows = is_prop→PathP (λ j. OnRows (trees (b j).now) (e j)) (λ j. rows_prop (trees (b j).now) (e j)) w.on_rows g.on_rows i;
+}
+
+-- ---- the gain of the pending part
+pub gains : (g : Game) (p : ℕ) (v : ℤ) → g.play.pending ≡ Some p → v ≡ gain_of (state g) p → PendingGains (state g) v
+gains g p v e h =
+    let there = at_now g p (pending_there (trees g.bank.now) g.side g.play g.told p e) in
+    let gain : GainIs g.side g.play.ambient (state g).parts (Some p) v = (position (trees g.bank.now) p (get_or g.play.rows p 0), there, h ∙ ap (gain_in g.side g.play.ambient) there) in
+    subst (λ d. GainIs g.side g.play.ambient (state g).parts d v) (sym e) gain

@@ -1,18 +1,16 @@
 -- The figures of one position, by what a bank keeps of it.
 use mathlib.Core.Logic.{∥∥₁_elim}
-use Rattle.std.proofs.Common.{◌≡◌, ℕ, ◌≤◌, length, ℤ, pos, neg_ℤ, ◌≤ℤ◌, Some, None, refl, subst, arith}
+use Rattle.std.proofs.Common.{◌≡◌, ℕ, ◌≤◌, length, ℤ, pos, neg_ℤ, ◌≤ℤ◌, refl, subst, arith}
 use Rattle.bank.proofs.Showing.{≤ℤ_prop}
 use Rattle.std.proofs.lemmas.Int.{ints}
 use Rattle.terms.specs.declared.side.Side.{Side}
 use Rattle.terms.specs.declared.side.Side.TheVariants.{Left, Right}
 use Rattle.terms.specs.Sides.{other, own, pick}
 use Rattle.theory.specs.Limits.{wall_limit}
-use Rattle.theory.specs.Trees.{Tree, ended, branch}
+use Rattle.theory.specs.Trees.{Tree}
 use Rattle.theory.specs.Fair.{Fair}
-use Rattle.theory.specs.Walls.{left_wall, right_wall, temperature}
+use Rattle.theory.specs.Walls.{left_wall, right_wall}
 use Rattle.theory.proofs.Range.{figures_fit_lem}
-use Rattle.spreading.specs.Shapes.{shape_of}
-use Rattle.spreading.specs.declared.shape.Kind.TheVariants.{Open}
 use Rattle.encoding.specs.Columns.{part_limit}
 use Rattle.stories.specs.Game.{near, far}
 use Rattle.bank.specs.declared.bank.Bank.{Bank}
@@ -20,17 +18,7 @@ use Rattle.bank.specs.Contents.{trees}
 use Rattle.bank.specs.Parts.{There}
 use Rattle.bank.proofs.Showing.{fair_row}
 use Rattle.bank.proofs.Trees.{trees_held, parts_trees}
-use Rattle.play.specs.Standing.{heat_of}
 use Rattle.game.specs.Rows.{position}
-
--- ---- the temperature
-pub heat_open : (f : ℕ) (x : Tree) → (shape_of f x).kind ≡ Open → Some (temperature x) ≡ heat_of x
-heat_open f (ended v) e = let z : ◌≡◌ {A = ℕ} 0 1 = cc in absurd (omega arith)
-heat_open f (branch L R) e = refl
-
-pub heat_shut : (f : ℕ) (x : Tree) → ((shape_of f x).kind ≡ Open → ⊥) → None ≡ heat_of x
-heat_shut f (ended v) n = refl
-heat_shut f (branch L R) n = absurd (n refl)
 
 -- ---- walls
 pub near_own : (s : Side) (t : ℕ) (x : Tree) → own s (pick (other s) (left_wall x t) (right_wall x t)) ≡ near s t x

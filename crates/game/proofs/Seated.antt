@@ -1,5 +1,5 @@
 -- The trees of a bank are those of some story: each of them seated, one after the other, in an empty bank.
-use Rattle.std.proofs.Common.{◌≡◌, ℕ, zero, suc, ◌+◌, ◌<◌, ◌≤◌, Bool, false, cond, ltb, leb, List, [], ◌∷◌, ◌++◌, map, length, get_or, Some, None, Option, sym, refl, ap, ◌∙◌, subst, le_of_suc-le-suc, not-suc-le-zero, arith}
+use Rattle.std.proofs.Common.{◌≡◌, ℕ, suc, ◌+◌, ◌≤◌, ltb, leb, List, [], ◌∷◌, ◌++◌, map, length, Some, None, Option, sym, ap, ◌∙◌, subst, arith}
 use mathlib.Core.Logic.{∥∥₁_elim, ∥∥₁_prop}
 use Rattle.std.proofs.lemmas.List.{append-nil, append_assoc, length_push}
 use Rattle.std.proofs.lemmas.Bool.{le-ltb, lt-leb, cond-false}
@@ -12,7 +12,7 @@ use Rattle.thermographs.specs.Figures.{corner_limit}
 use Rattle.theory.specs.Trees.{Tree, height, size}
 use Rattle.theory.specs.Stops.{cold}
 use Rattle.theory.proofs.Fairness.{warm_cold}
-use Rattle.spreading.specs.Order.{none, sizes}
+use Rattle.spreading.specs.Order.{sizes}
 use Rattle.spreading.specs.Shapes.{row_limit}
 use Rattle.spreading.proofs.Rows.{sizes_append}
 use Rattle.spreading.proofs.Everywhere.{Each}

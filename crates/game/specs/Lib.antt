@@ -1,2 +1,4 @@
 pub mod Rows
+pub mod Options
+pub mod Presents
 pub mod State

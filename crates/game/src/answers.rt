@@ -1,18 +1,17 @@
-ghost use Rattle.std.specs.Prelude.{◌≡◌, ◌<◌, length};
+ghost use Rattle.std.specs.Prelude.{◌≡◌, length};
 ghost use Rattle.theory.specs.Trees.{at};
 ghost use Rattle.stories.specs.Game.{floor_of, bracket_of, AdviceIs};
 ghost use Rattle.stories.specs.Promise.{Promised, SureFloor, SureBracket};
 ghost use Rattle.stories.specs.Stories.{Story, game_after};
-ghost use Rattle.game.specs.State.{state, Stands, mean_in, tree_heat, Gains, PendingGains};
+ghost use Rattle.game.specs.State.{state, mean_in, tree_heat, Stands, gain_of, PendingGains, parts_now, view_now};
 
-use crate::best::best_at;
 use crate::game::Game;
-use crate::present::{greatest_heat, hottest_part, means, nears};
-use crate::reads::{far_at, heat_at, mean_at, near_at};
+use crate::present::Present;
+use crate::view::View;
 use stories::Turn;
 use terms::{Refusal, Side};
 
-impl Game<'_> {
+impl<'b> Game<'b> {
     // Our side.
     pub fn side(&self) -> Side
         ensures { result ≡ (state self.now).side }
@@ -41,14 +40,31 @@ impl Game<'_> {
         self.bank.parts()
     }
 
+    // The parts as they stand.
+    pub(crate) fn present(&self) -> Present<'b>
+        ensures { result ≡ parts_now self.now }
+    {
+        Present {
+            bank: self.bank,
+            rows: self.play.rows,
+        }
+    }
+
+    // How we see positions now.
+    fn view(&self) -> View
+        ensures { result ≡ view_now self.now }
+    {
+        View {
+            side: self.side,
+            t: self.play.ambient,
+        }
+    }
+
     // The mean of a part as it stands, in units; 0 where there is no such part.
     pub fn mean(&self, part: u8) -> i32
         ensures { result ≡ mean_in (at (state self.now).parts part) }
     {
-        if part >= self.bank.parts() {
-            return 0;
-        }
-        mean_at(self.bank, part, self.play.rows[part as usize])
+        self.present().mean(part as usize)
     }
 
     // The temperature of a part as it stands, in units; none where it has ended or there is no such
@@ -56,23 +72,18 @@ impl Game<'_> {
     pub fn heat(&self, part: u8) -> Option<u32>
         ensures { result ≡ tree_heat (at (state self.now).parts part) }
     {
-        if part >= self.bank.parts() {
-            return None;
-        }
-        heat_at(self.bank, part, self.play.rows[part as usize])
+        self.present().heat(part as usize)
     }
 
     // What the far wall of a part has above its near wall, at the ambient.
     fn gain_in(&self, part: u8) -> i32
-        requires { part < length (state self.now).parts }
-        ensures { Gains (state self.now) part result }
+        ensures { result ≡ gain_of (state self.now) part }
     {
-        let row = self.play.rows[part as usize];
-        let far = far_at(self.bank, part, row, self.side, self.play.ambient);
-        far - near_at(self.bank, part, row, self.side, self.play.ambient)
+        self.present().gain(part as usize, self.view())
     }
 
-    // The same of the pending part; 0 without any.
+    // The same of the pending part; 0 without any. (Tried with `map_or`: the proof didn't close, as it
+    // learns nothing of the closure here.)
     fn gain(&self) -> i32
         ensures { PendingGains (state self.now) result }
     {
@@ -87,7 +98,7 @@ impl Game<'_> {
         ensures answer { result ≡ floor_of (state self.now) }
         ensures promise { (st : Story) → Stands st self.now → SureFloor st result }
     {
-        let nears = nears(self.bank, &self.play.rows, self.side, self.play.ambient);
+        let nears = self.present().nears(self.view());
         let parts = self.bank.parts() as usize;
         self.play.floor(&nears[..parts], self.gain())
     }
@@ -97,9 +108,10 @@ impl Game<'_> {
         ensures answer { (result.0, result.1) ≡ bracket_of (state self.now) }
         ensures promise { (st : Story) → Stands st self.now → SureBracket st (result.0, result.1) }
     {
-        let means = means(self.bank, &self.play.rows);
+        let present = self.present();
+        let means = present.means();
         let parts = self.bank.parts() as usize;
-        let hottest = greatest_heat(self.bank, &self.play.rows);
+        let hottest = present.greatest_heat();
         self.play.bracket(self.side, &means[..parts], hottest)
     }
 
@@ -108,11 +120,9 @@ impl Game<'_> {
         ensures answer { AdviceIs (state self.now) result }
         ensures promise { (st : Story) → Stands st self.now → Promised st × AdviceIs (game_after st) result }
     {
-        let hottest = hottest_part(self.bank, &self.play.rows);
-        let part = self.play.advised_part(hottest)?;
-        let row = self.play.rows[part];
-        let part = part as u8;
-        let option = best_at(self.bank, part, row, self.side, self.play.ambient);
-        Ok((part, option))
+        let present = self.present();
+        let part = self.play.advised_part(present.hottest())?;
+        let at = present.here(part).unwrap();
+        Ok((part as u8, self.view().best(at)))
     }
 }

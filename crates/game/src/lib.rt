@@ -3,12 +3,11 @@
 #![tactic(auto)]
 
 mod answers;
-mod best;
 mod game;
-mod landing;
 mod moves;
 mod open;
 mod present;
 mod reads;
+mod view;
 
 pub use game::Game;

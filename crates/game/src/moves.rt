@@ -6,11 +6,11 @@ ghost use Rattle.play.specs.Record.{done};
 ghost use Rattle.game.specs.State.{state, Stands, after_call, Kept};
 
 use crate::game::Game;
-use crate::landing::landing;
 use terms::Refusal;
 
 impl Game<'_> {
-    // Our move: the option in the part.
+    // Our move: the option in the part. It and their reply are two lines each, over the landing and
+    // the play that they share.
     pub fn our_move(&mut self, part: u8, option: u8) -> Result<(), Refusal>
         ensures state { state self.new ≡ step (state self.old) (move part option) }
         ensures answer { result ≡ done (our_pick (state self.old) part option) }
@@ -18,7 +18,7 @@ impl Game<'_> {
         ensures kept { Kept self.old self.new result }
         ensures story { (st : Story) → Stands st self.old → Stands (after_call st (move part option)) self.new }
     {
-        let landing = landing(self.bank, &self.play.rows, self.side, part, option);
+        let landing = self.present().landing(self.side, part, option);
         self.play.our_move(landing)
     }
 
@@ -30,7 +30,7 @@ impl Game<'_> {
         ensures kept { Kept self.old self.new result }
         ensures story { (st : Story) → Stands st self.old → Stands (after_call st (reply part option)) self.new }
     {
-        let landing = landing(self.bank, &self.play.rows, self.side.other(), part, option);
+        let landing = self.present().landing(self.side.other(), part, option);
         self.play.their_reply(landing)
     }
 }

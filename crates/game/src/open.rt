@@ -8,7 +8,7 @@ ghost use Rattle.bank.specs.Contents.{trees};
 ghost use Rattle.game.specs.State.{state, Stands};
 
 use crate::game::Game;
-use crate::present::greatest_heat;
+use crate::present::Present;
 use bank::Bank;
 use encoding::PART_LIMIT;
 use play::Play;
@@ -22,7 +22,11 @@ impl<'b> Game<'b> {
         ensures story { (ms : List (Maybe Tree)) (l : Meant ms) → seated [] ms ≡ trees bank.now → Stands (opens ms l side first) result }
         ensures promise { Promise }
     {
-        let hottest = greatest_heat(bank, &[0; PART_LIMIT]);
+        let present = Present {
+            bank,
+            rows: [0; PART_LIMIT],
+        };
+        let hottest = present.greatest_heat();
         Game {
             bank,
             side,

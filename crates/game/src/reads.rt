@@ -1,59 +1,37 @@
-ghost use Rattle.std.specs.Prelude.{◌≡◌, pos, neg_ℤ, ◌≤ℤ◌};
-ghost use Rattle.terms.specs.Sides.{own as own_of};
-ghost use Rattle.theory.specs.Limits.{wall_limit};
+ghost use Rattle.std.specs.Prelude.{◌≡◌};
 ghost use Rattle.theory.specs.Walls.{mean as mean_of};
-ghost use Rattle.stories.specs.Game.{near, far};
-ghost use Rattle.bank.specs.Contents.{trees};
-ghost use Rattle.bank.specs.Parts.{There};
+ghost use Rattle.bank.specs.Positions.{position_of};
 ghost use Rattle.play.specs.Standing.{heat_of};
-ghost use Rattle.game.specs.Rows.{position};
+ghost use Rattle.game.specs.Options.{OptionIs};
 
-use bank::Bank;
-use spreading::Kind;
+use bank::Position;
+use spreading::Shape;
 use terms::Side;
 
-// The temperature of the position at a row; none where it has ended.
-pub(crate) fn heat_at(bank: &Bank, part: u8, row: u16) -> Option<u32>
-    requires { There (trees bank.now) part row }
-    ensures { result ≡ heat_of (position (trees bank.now) part row) }
+// The temperature of a position; none where it has ended.
+pub(crate) fn heat(at: Position<'_>) -> Option<u32>
+    ensures { result ≡ heat_of (position_of at.entry) }
 {
-    match bank.shape_at(part, row).kind {
-        Kind::Open => Some(bank.figures_at(part, row).temperature),
+    match at.shape() {
+        Shape::Open(_) => Some(at.figures().temperature),
         _ => None,
     }
 }
 
 // Its mean.
-pub(crate) fn mean_at(bank: &Bank, part: u8, row: u16) -> i32
-    requires { There (trees bank.now) part row }
-    ensures { result ≡ mean_of (position (trees bank.now) part row) }
+pub(crate) fn mean(at: Position<'_>) -> i32
+    ensures { result ≡ mean_of (position_of at.entry) }
 {
-    bank.figures_at(part, row).mean
+    at.figures().mean
 }
 
-// A figure as the side counts it.
-fn own(side: Side, figure: i32) -> i32
-    requires { neg_ℤ (pos wall_limit) ≤ℤ figure }
-    ensures { result ≡ own_of side figure }
+// The position to which the side's option leads; none where there is no such option.
+pub(crate) fn option<'b>(at: Position<'b>, side: Side, option: usize) -> Option<Position<'b>>
+    ensures { OptionIs at.entry side option result }
 {
-    match side {
-        Side::Left => figure,
-        Side::Right => -figure,
+    let shape = at.shape();
+    if option >= shape.count(side) {
+        return None;
     }
-}
-
-// Its near wall at `t`, as the side sees it: what the side has there if the other moves first.
-pub(crate) fn near_at(bank: &Bank, part: u8, row: u16, side: Side, t: u32) -> i32
-    requires { There (trees bank.now) part row }
-    ensures { result ≡ near side t (position (trees bank.now) part row) }
-{
-    own(side, bank.wall_at(part, row, side.other(), t))
-}
-
-// Its far wall: what the side has there if it moves first.
-pub(crate) fn far_at(bank: &Bank, part: u8, row: u16, side: Side, t: u32) -> i32
-    requires { There (trees bank.now) part row }
-    ensures { result ≡ far side t (position (trees bank.now) part row) }
-{
-    own(side, bank.wall_at(part, row, side, t))
+    Some(at.at((shape.start(side) + option) as u16))
 }

@@ -1,8 +1,7 @@
-use Rattle.bank.specs.Contents.{trees}
-use Rattle.game.proofs.Answered.{pending_there}
+use Rattle.std.proofs.Common.{arith}
+use Rattle.std.proofs.lemmas.Int.{ints}
+use Rattle.game.proofs.Games.{gains}
 use Rattle.game.proofs.game.Game.gain.Goals as goal
 
-pub gain_in-requires : goal.gain_in-requires
-gain_in-requires c =
-    let g = c.args.self.now in
-    pending_there (trees g.bank.now) g.side g.play g.told c.in-Some.part c.in-Some.is
+pub returns-in-Some : goal.returns-in-Some
+returns-in-Some c = gains c.args.self.now c.in-Some.part _ c.in-Some.is (omega (arith, ints, c.gain_in.ensures))

@@ -11,8 +11,8 @@ use Rattle.game.proofs.Positions.{few_parts}
 use Rattle.game.proofs.Seated.{opened, opened_storied}
 use Rattle.game.proofs.game.Game.open.Goals as goal
 
-pub greatest_heat-hottest-requires : goal.greatest_heat-hottest-requires
-greatest_heat-hottest-requires c = first_rows part_limit (trees c.args.bank.now)
+pub invariant_of-present : goal.invariant_of-present
+invariant_of-present c = record { enough = omega (arith, few_parts c.args.bank.now, length-replicate {A = ℕ} part_limit 0); on_rows = first_rows part_limit (trees c.args.bank.now) }
 
 pub invariant_of-result : goal.invariant_of-result
 invariant_of-result c =

@@ -2,11 +2,9 @@ use Rattle.std.proofs.Common.{length, refl, subst}
 use Rattle.bank.specs.Contents.{trees}
 use Rattle.play.specs.Standing.{Leads}
 use Rattle.play.proofs.Tales.{play_told_lem}
-use Rattle.game.proofs.Games.{inside_so, long_after, rows_after_lem, reply_storied, kept_game}
+use Rattle.game.specs.Rows.{OnRow}
+use Rattle.game.proofs.Games.{long_after, rows_after_lem, reply_storied, kept_game}
 use Rattle.game.proofs.game.Game.their_reply.Goals as goal
-
-pub their_reply-requires : goal.their_reply-requires
-their_reply-requires c = inside_so c.args.self.now.bank.now c.landing-landing.result c.landing-landing.ensures.row
 
 pub invariant_of-self : goal.invariant_of-self
 invariant_of-self c =
@@ -18,12 +16,13 @@ invariant_of-self c =
     let l = c.landing-landing.result in
     let z = c.their_reply.new.self in
     let r = c.their_reply.result in
-    let leads = subst (λ s. Leads ts s y.rows p k l) c.other.ensures c.landing-landing.ensures.leads in
+    let there = subst (λ w. Leads (trees w.bank.now) c.other.result w.rows p k l) c.present.ensures c.landing-landing.ensures.leads in
+    let leads = subst (λ s. Leads ts s y.rows p k l) c.other.ensures there in
     let e = c.their_reply.ensures in
     let wide = c.args.self.now.enough in
     record {
       enough = long_after (length ts) y.rows z.rows l r wide e.rows;
-      on_rows = rows_after_lem ts y.rows z.rows l r wide e.rows c.landing-landing.ensures.row c.args.self.now.on_rows;
+      on_rows = rows_after_lem ts y.rows z.rows l r wide e.rows (subst (λ w. OnRow (trees w.bank.now) l) c.present.ensures c.landing-landing.ensures.row) c.args.self.now.on_rows;
       told = reply_storied ts s y z l r p k e.game leads c.args.self.now.told;
     }
 
@@ -37,7 +36,8 @@ returns c =
     let l = c.landing-landing.result in
     let z = c.their_reply.new.self in
     let r = c.their_reply.result in
-    let leads = subst (λ s. Leads ts s y.rows p k l) c.other.ensures c.landing-landing.ensures.leads in
+    let there = subst (λ w. Leads (trees w.bank.now) c.other.result w.rows p k l) c.present.ensures c.landing-landing.ensures.leads in
+    let leads = subst (λ s. Leads ts s y.rows p k l) c.other.ensures there in
     let e = c.their_reply.ensures in
     let goes = e.game ts s p k leads in
     record {
