@@ -1,12 +1,13 @@
-ghost use Rattle.std.specs.Prelude.{◌≡◌, ◌<◌, length};
+ghost use Rattle.std.specs.Prelude.{◌≡◌, ◌<◌, length, IsErr};
 ghost use Rattle.lines.specs.Reading.{longest};
 
 use bank::Bank;
-use lines::{Key, Reader, check_length, is};
+use lines::{Key, Reader};
 use map_text::read_map;
 use rules::RuleSet;
-use tree_text::read_tree;
-use trees::{BLANK_ROW, PICK_LIMIT, ROW_LIMIT, Trees};
+use terms::Fault;
+use tree_text::{Lent, read_tree};
+use trees::{BLANK_ROW, PICK_LIMIT, ROW_LIMIT};
 
 // Seats copies of a position until the bank has so many parts or refuses.
 fn seat_copies<R: RuleSet>(bank: &mut Bank, rules: &R, copies: u8) {
@@ -26,32 +27,36 @@ fn seat_again<R: RuleSet>(rules: &R, copies: u8, times: u32) -> u8 {
 }
 
 // Reads a part of a job, from its line rules= on, and seats it.
-fn seat_part(reader: &mut Reader, copies: u8, times: u32) -> u8 {
-    let Ok((kind, _)) = reader.value(Key::Rules) else {
-        return 0;
-    };
-    if is(kind, b"snort") {
-        return match read_map(reader) {
-            Ok(map) => seat_again(&map, copies, times),
-            Err(_) => 0,
-        };
+fn seat_part(reader: &mut Reader, copies: u8, times: u32) -> Result<u8, Fault> {
+    let kind = reader.value(Key::Rules)?;
+    if kind.bytes == b"snort".as_slice() {
+        let map = read_map(reader)?;
+        return Ok(seat_again(&map, copies, times));
     }
     let mut rows = [BLANK_ROW; ROW_LIMIT];
     let mut picks = [0; PICK_LIMIT];
-    match read_tree(reader, &mut rows, &mut picks) {
-        Ok(()) => seat_again(&Trees::new(&rows, &picks), copies, times),
-        Err(_) => 0,
-    }
+    let mut lent = Lent {
+        rows: &mut rows,
+        picks: &mut picks,
+    };
+    read_tree(reader, &mut lent)?;
+    Ok(seat_again(&lent.trees(), copies, times))
+}
+
+// Reads the text of a part and seats it, again and again.
+fn seat_text(part: &[u8], copies: u8, times: u32) -> Result<u8, Fault>
+    ensures { longest < length part.now → IsErr result }
+{
+    let mut reader = Reader::open(part)?;
+    seat_part(&mut reader, copies, times)
 }
 
 // Reads the part that the text says once, and seats copies of it in an emptied bank so many times.
-// Answers how many parts the bank has at the end, 0 for a text that is refused.
+// Answers how many parts the bank has at the end, 0 for a text that is refused: C has no other word
+// for a refusal here.
 #[unsafe(no_mangle)]
 pub extern "C" fn seat_many(part: &[u8], copies: u8, times: u32) -> u8
     ensures { longest < length part.now → result ≡ 0 }
 {
-    match check_length(part) {
-        Ok(()) => seat_part(&mut Reader::new(part), copies, times),
-        Err(_) => 0,
-    }
+    seat_text(part, copies, times).unwrap_or(0)
 }

@@ -5,7 +5,7 @@ use Rattle.terms.specs.declared.fault.Refusal.{Refusal}
 use Rattle.theory.specs.Trees.{Tree}
 use Rattle.lines.specs.declared.reader.Reader.{Reader}
 use Rattle.lines.specs.declared.key.Key.TheVariants as key
-use Rattle.lines.specs.Reading.{State, Reading, then, on_line}
+use Rattle.lines.specs.Reading.{State, then, on_line}
 use Rattle.lines.specs.Lines.{entry, form}
 use Rattle.lines.specs.Seen.{seen, gave}
 use Rattle.tree_text.specs.Rows.{Row, tree_lines}

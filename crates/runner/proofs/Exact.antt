@@ -1,12 +1,9 @@
 -- A job runs to its end exactly where its text is that of a legal job.
-use Rattle.std.proofs.Common.{◌≡◌, ℕ, ◌-◌, List, [], ◌∷◌, map, Ok, Err, Option, Result, sym, refl, ap, ◌∙◌, subst}
+use Rattle.std.proofs.Common.{◌≡◌, ℕ, ◌-◌, List, [], ◌∷◌, map, Ok, sym, refl, ap, ◌∙◌, subst}
 use Rattle.std.specs.List.{AllByRecursion}
-use Rattle.terms.specs.declared.fault.Fault.{Fault}
-use Rattle.theory.specs.Trees.{Tree}
-use Rattle.stories.specs.Seatings.{seated}
-use Rattle.stories.specs.Game.{Game, opening}
-use Rattle.stories.specs.Stories.{Meant, opens, game_after}
-use Rattle.lines.specs.Reading.{State, at, then, fits}
+use Rattle.stories.specs.Game.{opening}
+use Rattle.stories.specs.Stories.{Meant, opens}
+use Rattle.lines.specs.Reading.{State, at, fits}
 use Rattle.lines.proofs.Fields.{ok_same, err_ok}
 use Rattle.lines.proofs.Laws.{then_ok, then_run}
 use Rattle.job.specs.Grammar.{Part, Job, GoodPart}
@@ -16,8 +13,8 @@ use Rattle.job.proofs.Jobs.{parts_reads, job_exact}
 use Rattle.meanings.specs.Meaning.{meaning}
 use Rattle.meanings.proofs.Parts.{part_lawful}
 use Rattle.runner.specs.Runs.{Outcome, seat_parts, play_moves, run_lines, finished, run_job}
-use Rattle.runner.specs.Stories.{meanings, opened, story_of, Legal, outcome}
-use Rattle.runner.specs.Law.{Runs, Exact, RunExact}
+use Rattle.runner.specs.Stories.{meanings, Legal, outcome}
+use Rattle.runner.specs.Law.{Runs, RunExact}
 use Rattle.runner.proofs.Seatings.{led_seated, parts_seat}
 use Rattle.runner.proofs.Plays.{moves_play}
 

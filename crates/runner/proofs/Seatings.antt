@@ -2,7 +2,7 @@
 use Rattle.std.proofs.Common.{◌≡◌, ℕ, List, [], ◌∷◌, map, Some, None, Ok, Err, Option, Result, sym, refl, ap}
 use Rattle.terms.specs.declared.fault.Refusal.{Refusal}
 use Rattle.theory.specs.Trees.{Tree}
-use Rattle.stories.specs.Seatings.{cause, seat, seated}
+use Rattle.stories.specs.Seatings.{cause, seated}
 use Rattle.stories.proofs.Places.{ok_same, err_ok}
 use Rattle.lines.specs.Reading.{times, Along, led}
 use Rattle.job.specs.Grammar.{Part}

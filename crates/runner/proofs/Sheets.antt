@@ -1,24 +1,22 @@
 -- The figures of a game, part by part.
-use Rattle.std.proofs.Common.{◌≡◌, ℕ, ◌<◌, ◌≤◌, List, map, length, get_or, take, None, Option, ap, ◌∙◌, arith}
+use Rattle.std.proofs.Common.{◌≡◌, ℕ, ◌<◌, ◌≤◌, List, map, length, get_or, take, None, ap, ◌∙◌, arith}
 use Rattle.theory.specs.Trees.{Tree, at}
 use Rattle.spreading.specs.Order.{none}
 use Rattle.encoding.specs.Columns.{part_limit}
 use Rattle.bank.specs.Contents.{trees}
 use Rattle.bank.proofs.Showing.{at_there}
 use Rattle.game.specs.declared.game.Game.{Game}
-use Rattle.game.specs.State.{state, mean_in, tree_heat}
+use Rattle.game.specs.State.{state}
 use Rattle.game.proofs.Lists.{filled_all}
 use Rattle.game.proofs.Positions.{few_parts}
 use Rattle.game.proofs.Presents.{present_long}
 use Rattle.sheet.specs.declared.values.PartLines.{PartLines}
 use Rattle.sheet.specs.Sheets.{part_lines}
+use Rattle.runner.specs.Pages.{lines_in}
 
 -- a game has no more parts than a bank may have
 pub few_played : (g : Game) → length (state g).parts ≤ part_limit
 few_played g = omega (arith, present_long (trees g.bank.now) g.play.rows g.enough, few_parts g.bank.now)
-
-abbrev pub lines_in : Option Tree → PartLines
-lines_in o = record { mean = mean_in o; heat = tree_heat o }
 
 abbrev pub no_lines : PartLines
 no_lines = lines_in None

@@ -1,5 +1,5 @@
 -- A run that reads something and goes by what was read: it ends well exactly where that is read and is good.
-use Rattle.std.proofs.Common.{◌≡◌, ℕ, zero, suc, List, [], ◌∷◌, Ok, Err, Result, sym, refl, ap, ◌∙◌, subst}
+use Rattle.std.proofs.Common.{◌≡◌, ℕ, zero, suc, List, [], ◌∷◌, Ok, Err, Result, sym, ap, ◌∙◌, subst}
 use Rattle.terms.specs.declared.fault.Refusal.{Refusal}
 use Rattle.lines.specs.Reading.{State, Reading, ◌>>=◌, times, Along, led}
 use Rattle.lines.proofs.Fields.{ok_same, err_ok}

@@ -6,7 +6,7 @@ use Rattle.terms.specs.Refusals.{fault}
 use Rattle.terms.specs.declared.side.Side.{Side}
 use Rattle.terms.specs.declared.side.Mover.{Mover}
 use Rattle.theory.specs.Trees.{Tree}
-use Rattle.stories.specs.Game.{Game, opening}
+use Rattle.stories.specs.Game.{opening}
 use Rattle.sheet.specs.declared.values.Sheet.{Sheet}
 use Rattle.lines.specs.declared.reader.Reader.{Reader}
 use Rattle.lines.specs.Reading.{State, at, Reading, then, done, ◌>>=◌, fits}

@@ -1,10 +1,12 @@
 -- What the run of a job writes and leaves.
-use Rattle.std.specs.Prelude.{◌≡◌, ℕ, List, [], Some, Ok, Err, Result}
+use Rattle.std.specs.Prelude.{◌≡◌, ℕ, List, [], Some, Ok, Err, Result, Option}
 use Rattle.terms.specs.declared.fault.Fault.{Fault}
 use Rattle.theory.specs.Trees.{Tree}
 use Rattle.stories.specs.Game.{Game}
 use Rattle.stories.specs.Stories.{Meant, Story, game_after}
 use Rattle.stories.specs.Promise.{Advised, SureFloor, SureBracket, Promised}
+use Rattle.game.specs.State.{mean_in, tree_heat}
+use Rattle.sheet.specs.declared.values.PartLines.{PartLines}
 use Rattle.sheet.specs.declared.values.Sheet.{Sheet}
 use Rattle.sheet.specs.Sheet.{sheet_text, answer, written_over}
 use Rattle.sheet.specs.Sheets.{Sheets}
@@ -15,6 +17,10 @@ use Rattle.job.specs.Grammar.{Job}
 use Rattle.job.specs.Law.{Says}
 use Rattle.runner.specs.Runs.{Outcome}
 use Rattle.runner.specs.Stories.{meanings, story_of, Legal}
+
+-- what a sheet says of a part, if there is one
+abbrev pub lines_in : Option Tree → PartLines
+lines_in o = record { mean = mean_in o; heat = tree_heat o }
 
 -- ---- by the run of the job
 -- the sheet of its game is written over the output, where it fits

@@ -15,7 +15,7 @@ use Rattle.lines.specs.Reading.{State, at, Reading, then, on_line, done, â—Œ>>=â
 use Rattle.lines.specs.Lines.{entry, form}
 use Rattle.job.specs.declared.kind.Kind.{Kind}
 use Rattle.job.specs.declared.moves.Move.{Move}
-use Rattle.job.specs.Grammar.{Part, part_limit, move_limit}
+use Rattle.job.specs.Grammar.{part_limit, move_limit}
 use Rattle.job.specs.Reads.{side_line, first_line, body_lines, part_lines, move_line}
 use Rattle.meanings.specs.Meaning.{meaning}
 

@@ -1,5 +1,5 @@
 -- The story of a job: its parts are seated in an empty bank, the game is opened, and each move is made by whoever is to move.
-use Rattle.std.specs.Prelude.{◌≡◌, List, [], ◌∷◌, map, None, Option}
+use Rattle.std.specs.Prelude.{◌≡◌, List, [], map, None, Option}
 use Rattle.terms.specs.declared.side.Mover.{Mover}
 use Rattle.terms.specs.declared.side.Mover.TheVariants.{Ours, Theirs}
 use Rattle.theory.specs.Trees.{Tree}

@@ -4,13 +4,10 @@ ghost use Rattle.game.specs.State.{state};
 ghost use Rattle.runner.specs.Runs.{leaving, chain, making, play_move, play_moves};
 
 use game::Game;
-use job::{Move, read_count, read_move};
+use job::{MOST_MOVES, Move, read_count, read_move};
 use lines::{Key, Reader, at_line};
 use stories::Turn;
 use terms::{Fault, Refusal};
-
-// The most moves of a job.
-const MOST_MOVES: u16 = 96;
 
 // A move by whoever is to move.
 fn make(game: &mut Game, next: Move) -> Result<(), Refusal>
@@ -28,14 +25,14 @@ fn play_move(reader: &mut Reader, game: &mut Game) -> Result<(), Fault>
     ensures { gave (leaving result (state game.new)) reader.new ≡ play_move (state game.old) (seen reader.old) }
 {
     let next = read_move(reader)?;
-    at_line(make(game, next), reader.line.saturating_sub(1))
+    at_line(make(game, next), reader.last())
 }
 
-// So many moves.
+// So many moves; `seat_more` says why the two loops are two.
 fn play_more(reader: &mut Reader, n: u16, game: &mut Game) -> Result<(), Fault>
     ensures { gave (leaving result (state game.new)) reader.new ≡ chain play_move n (state game.old) (seen reader.old) }
 {
-    for i in 0..n {
+    for _ in 0..n {
         play_move(reader, game)?;
     }
     Ok(())

@@ -1,4 +1,4 @@
-use Rattle.std.proofs.Common.{◌≡◌, ◌-◌, ap, ◌∙◌}
+use Rattle.std.proofs.Common.{◌-◌, ap, ◌∙◌}
 use Rattle.std.proofs.lemmas.Result.{err_from_is_err_and}
 use Rattle.game.specs.State.{state}
 use Rattle.lines.specs.Reading.{on_line}
@@ -24,6 +24,6 @@ returns c =
     let t = c.read_move.new.reader in
     let m = c.in_ok-next.next in
     gave_there (leaving c.at_line.result h) (making g m) t
-    (ap (λ r. leaving r h) (c.at_line.ensures ∙ ap (on_line c.make.result) c.saturating_sub.ensures)
+    (ap (λ r. leaving r h) (c.at_line.ensures ∙ ap (on_line c.make.result) c.last.ensures)
     ∙ (leaving_line c.make.result (t.line - 1) h ∙ ap (λ r. on_line r (t.line - 1)) c.make.ensures))
     ∙ bind_run move_line (λ m. there (making g m)) (seen c.args.reader.now) m (seen t) c.in_ok-next.ensures

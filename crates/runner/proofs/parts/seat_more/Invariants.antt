@@ -1,11 +1,13 @@
-use Rattle.std.proofs.Common.{◌≡◌, ◌-◌, min, length}
+use Rattle.std.proofs.Common.{◌≡◌, ◌-◌}
 use Rattle.bank.specs.Contents.{trees}
-use Rattle.trees.specs.Written.{pick_limit}
+use Rattle.tree_text.specs.Seen.{Kept, lent_rows, lent_room}
 use Rattle.lines.specs.Seen.{seen}
 use Rattle.runner.specs.Runs.{chain, seat_part}
 use Rattle.runner.proofs.parts.seat_more.Given as goal
 
-abbrev pub invariant-loop-i : goal.invariant-loop-i
-invariant-loop-i l =
-    chain (seat_part (length l.initial.rows) (min (length l.initial.picks) pick_limit)) (l.n - l.i) (trees l.bank) (seen l.reader)
-    ≡ chain (seat_part (length l.initial.rows) (min (length l.initial.picks) pick_limit)) l.n (trees l.initial.bank) (seen l.initial.reader)
+abbrev pub invariant-loop : goal.invariant-loop
+invariant-loop l = record {
+  seated : chain (seat_part (lent_rows l.initial.lent) (lent_room l.initial.lent)) (l.n - l.counter) (trees l.bank) (seen l.reader)
+      ≡ chain (seat_part (lent_rows l.initial.lent) (lent_room l.initial.lent)) l.n (trees l.initial.bank) (seen l.initial.reader);
+  kept : Kept l.initial.lent l.lent;
+}

@@ -1,9 +1,8 @@
-use Rattle.std.proofs.Common.{min, length}
-use Rattle.trees.specs.Written.{pick_limit}
+use Rattle.tree_text.specs.Seen.{lent_rows, lent_room}
 use Rattle.runner.proofs.Told.{sheet_fits}
 use Rattle.runner.proofs.run.write_sheet.Goals as goal
 
 pub write-requires : goal.write-requires
 write-requires c =
-    let h = c.in_ok-sheet.ensures in
-    sheet_fits (length c.args.rows.now) (min (length c.args.picks.now) pick_limit) c.args.job.now h.0 _ h.1 h.2
+    let h = c.in_ok-sheet.ensures.text in
+    sheet_fits (lent_rows c.args.lent.now) (lent_room c.args.lent.now) c.args.job.now h.0 _ h.1 h.2
