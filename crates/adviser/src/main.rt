@@ -3,6 +3,8 @@
 
 #![tactic(auto)]
 
+ghost use Rattle.std.specs.Prelude.{◌≤◌, length, IfOk};
+
 use anyhow::anyhow;
 use job::{Account, check_text};
 use std::io;
@@ -10,13 +12,26 @@ use std::io::Read;
 use trees::{BLANK_ROW, PICK_LIMIT, ROW_LIMIT};
 
 // One byte more than the longest job, so that a longer one is seen.
-const ROOM: u64 = 16385;
+const ROOM: usize = 16385;
 
-// Standard input, as far as a job may go.
-fn read_input(rt: &HostRuntime) -> io::Result<Vec<u8>> {
-    let mut job = Vec::new(rt.alloc());
-    rt.stdin().take(ROOM).read_to_end(&mut job)?;
-    Ok(job)
+// Fills the buffer from standard input, as far as either goes. Each read is offered all the room that
+// is left: an input that comes in packets would lose what a smaller buffer cuts off.
+fn read_input(rt: &HostRuntime, buffer: &mut [u8]) -> io::Result<usize>
+    ensures { IfOk result (λ n. n ≤ length buffer.old) }
+{
+    let mut input = rt.stdin();
+    let mut used = 0;
+    for _ in 0..ROOM {
+        if used >= buffer.len() {
+            break;
+        }
+        let got = input.read(&mut buffer[used..])?;
+        if got == 0 {
+            break;
+        }
+        used += got;
+    }
+    Ok(used)
 }
 
 fn print_account(rt: &HostRuntime, account: Account) -> io::Result<()> {
@@ -27,10 +42,11 @@ fn print_account(rt: &HostRuntime, account: Account) -> io::Result<()> {
 }
 
 fn main(rt: HostRuntime) -> anyhow::Result<()> {
-    let job = read_input(&rt)?;
+    let mut buffer = [0; ROOM];
+    let used = read_input(&rt, &mut buffer)?;
     let mut rows = [BLANK_ROW; ROW_LIMIT];
     let mut picks = [0; PICK_LIMIT];
-    match check_text(&job, &mut rows, &mut picks) {
+    match check_text(&buffer[..used], &mut rows, &mut picks) {
         Ok(account) => {
             print_account(&rt, account)?;
             Ok(())
