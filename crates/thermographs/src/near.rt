@@ -23,7 +23,7 @@ fn near_piece(option: Figures, corners: &[u32], side: Side, t: u32) -> Piece
 }
 
 // The piece at `t` of the best near wall that the side's options have. Options, corners and side are
-// no struct: one that borrows the told corners while a trail writes behind them finds no proof.
+// no struct: one that borrows the told corners while a route writes behind them finds no proof.
 pub fn best_piece(options: &[Figures], corners: &[u32], side: Side, t: u32) -> Piece
     requires sound { Sound side corners.now options.now }
     requires below { t ≤ wall_limit }

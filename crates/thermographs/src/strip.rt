@@ -7,7 +7,7 @@ ghost use Rattle.thermographs.specs.Near.{best, Sound};
 use crate::figures::{Figures, Wall};
 use crate::near::best_piece;
 use terms::Side;
-use walls::Trail;
+use walls::Route;
 
 // The corners of the rows that are done: they stand in the first `used` of the places. Each contract
 // that takes one says by `same_reference` that no other places were put in: a type cannot.
@@ -57,15 +57,15 @@ impl<'a> Strip<'a> {
     {
         let places = &mut *self.places;
         let (told, free) = places.split_at_mut(self.used);
-        let mut trail = Trail::new(free);
+        let mut route = Route::new(free);
         let mut t = 0;
         while t < temperature {
             let piece = best_piece(options, told, side, t);
-            trail.turn(!piece.slope, t)?;
+            route.turn(!piece.slope, t)?;
             t = piece.until.min(temperature);
         }
-        trail.turn(false, temperature)?;
-        let count = trail.len;
+        route.turn(false, temperature)?;
+        let count = route.trail.len;
         let wall = Wall {
             start,
             begin: self.used as u16,

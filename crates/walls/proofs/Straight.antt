@@ -1,11 +1,11 @@
--- Between two corners a wall is straight.
-use Rattle.std.proofs.Common.{◌≡◌, ℕ, zero, suc, ◌+◌, ◌-◌, ◌%◌, ◌<◌, ◌≤◌, Bool, true, false, ltb, List, [], ◌∷◌, length, get_or, ℤ, pos, ◌+ℤ◌, refl, add-zero, add-suc, arith}
-use Rattle.std.proofs.lemmas.Int.{ints}
+-- Between two corners a wall is straight, and the greater of two functions goes as the higher one.
+use Rattle.std.proofs.Common.{◌≡◌, ℕ, zero, suc, ◌+◌, ◌-◌, ◌%◌, ◌<◌, ◌≤◌, Bool, true, false, ltb, List, [], ◌∷◌, length, get_or, ℤ, pos, ◌+ℤ◌, ◌≤ℤ◌, refl, add-zero, add-suc, arith}
+use Rattle.std.proofs.lemmas.Int.{ints, clamps}
 use Rattle.std.proofs.lemmas.Bool.{lt-ltb, le-ltb}
 use Rattle.theory.specs.Corners.{above, rise, rising}
 use Rattle.theory.proofs.Rising.{Rising, above_all}
 use Rattle.walls.specs.declared.piece.Piece.{Piece}
-use Rattle.walls.specs.Pieces.{bit, climb, Linear}
+use Rattle.walls.specs.Pieces.{bit, climb, greater_of, Linear}
 use Rattle.walls.specs.Ranges.{Tame}
 
 -- where the first k corners are no higher than u, and the next one is, all but k lie above u
@@ -54,6 +54,17 @@ pub piece_holds : (base : ℤ) (cs : List ℕ) → Rising 0 cs → (k t until : 
 piece_holds base cs r k t until value slope kl lo hi e v j h =
     let q : rise cs (t + j) ≡ rise cs t + climb slope j = straight cs r k t until slope kl lo hi e j h in
     omega (arith, ints)
+
+-- the greater of two functions goes as the higher piece, as long as that is the higher
+pub over_linear : (a b : ℕ → ℤ) (t : ℕ) (p q : Piece) (e : ℕ) → e ≤ p.until → e ≤ q.until
+    → ((j : ℕ) → t + j ≤ e → (q.value +ℤ pos (climb q.slope j)) ≤ℤ (p.value +ℤ pos (climb p.slope j)))
+    → Linear a t p → Linear b t q → (j : ℕ) → t + j ≤ e
+    → (greater_of a b (t + j) ≡ (p.value +ℤ pos (climb p.slope j))) × (greater_of b a (t + j) ≡ (p.value +ℤ pos (climb p.slope j)))
+over_linear a b t p q e ep eq over la lb j h =
+    let x = la j (omega arith) in
+    let y = lb j (omega arith) in
+    let o = over j h in
+    (omega (arith, ints, clamps), omega (arith, ints, clamps))
 
 pub climb_zero : (s : Bool) → climb s 0 ≡ 0
 climb_zero true = refl

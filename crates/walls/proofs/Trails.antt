@@ -14,6 +14,9 @@ pub record Cut (ds : List ℕ) (n t : ℕ) (s : Bool) : Type 0 where
   pub next : n < length ds → t ≤ get_or ds n 0
   pub slope : 0 < t → (length ds - n) % 2 ≡ bit s
 
+pub cut_none : (ds : List ℕ) (s : Bool) → Cut ds 0 0 s
+cut_none ds s = record { front = omega arith; below = λ i h. absurd (omega arith); next = λ h. omega arith; slope = λ h. absurd (omega arith) }
+
 -- the slope changes
 differs : (m : ℕ) (s r : Bool) (t : ℕ) → 0 < t → suc m % 2 ≡ bit s → m % 2 ≡ bit r → turns s r t ≡ true
 differs m true true t h a b = absurd (omega arith)

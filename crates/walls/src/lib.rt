@@ -9,7 +9,7 @@ mod piece;
 mod reading;
 mod scaffold;
 
-pub use corner::Trail;
+pub use corner::{Route, Trail};
 pub use maximum::greater;
 pub use piece::Piece;
 pub use reading::{piece_at, value_at};

@@ -5,8 +5,8 @@ use Rattle.thermographs.proofs.strip.Strip.draw.Given as goal
 
 abbrev pub invariant-loop-t : goal.invariant-loop-t
 invariant-loop-t l = record {
-  same : l.trail.places.ghost_name ≡ l.initial.trail.places.ghost_name;
-  drawn : Drawn (best l.side l.told l.options) l.temperature l.initial.trail.places.now l.trail l.t;
+  same : l.route.places.ghost_name ≡ l.initial.route.places.ghost_name;
+  drawn : Drawn (best l.side l.told l.options) l.temperature l.initial.route.places.now l.route l.t;
 }
 
 abbrev pub decreases-loop-t : goal.decreases-loop-t
