@@ -2,7 +2,7 @@
 use Rattle.std.proofs.Common.{◌≡◌, ℕ, zero, suc, ◌+◌, ◌-◌, ◌<◌, ◌≤◌, ◌≢◌, List, [], ◌∷◌, ◌++◌, length, get_or, take, drop, set, Some, None, Option, sym, refl, ap, ◌∙◌, subst, append_assoc, le_of_suc-le-suc, not-suc-le-zero, arith, length-append, length-drop}
 use native.Mathlib.Decide.{dec_lt}
 use borrow.Rule.Slice.PartMut.{put_mid, post_of}
-use Rattle.std.proofs.lemmas.List.{get_or-append_right, get_or-take, length-take, get_or_append_left, get_or_at, get_or-set_same, get_or-set_other, take_more, append-nil, nil_from_length, length-take-le, length_push, drop-drop, drop-set-lt}
+use Rattle.std.proofs.lemmas.List.{get_or-append_right, get_or-take, length-take, get_or_append_left, get_or_at, get_or-set_same, get_or-set_other, take_more, length-take-le, length_push, drop-drop, drop-set-lt}
 use Rattle.terms.specs.declared.side.Side.{Side}
 use Rattle.terms.specs.declared.side.Side.TheVariants.{Left, Right}
 use Rattle.theory.specs.Trees.{Tree, options, at, size}
@@ -10,8 +10,6 @@ use Rattle.rules.specs.Meaning.{options_in}
 use Rattle.spreading.specs.Order.{none, grown, row, first}
 use Rattle.spreading.specs.Shapes.{blank, shape_of, shape_at, shapes_of, count_of, Stand, SpreadInto}
 use Rattle.spreading.specs.declared.shape.Shape.{Shape}
-use Rattle.spreading.specs.declared.shape.Shape.TheVariants.{Unused, Ended, Open}
-use Rattle.spreading.specs.declared.shape.Fork.{Fork}
 use Rattle.spreading.proofs.Rows.{kept, within, grown_next, first_next, finished}
 use Rattle.spreading.proofs.Shapes.{RowsOf, all_rows, count_is}
 
@@ -125,13 +123,13 @@ next_row tree t i n codes rows new lt old answer =
     }
 
 -- one row done: the codes of its options stand behind the others, and its shape is written
-pub grown_step : (tree : ℕ → Option Tree) (t : Tree) (i n : ℕ) (codes codes' codes'' : List ℕ) (rows : List Shape) (new : Shape)
-    → i < n → i < length rows → Growing tree t i n codes rows
+pub grown_step : (tree : ℕ → Option Tree) (t : Tree) (i n to : ℕ) (codes codes' codes'' : List ℕ) (rows : List Shape) (new : Shape)
+    → i < n → i < length rows → to ≡ n + count_of new Left + count_of new Right → Growing tree t i n codes rows
     → ((x : Tree) → tree (get_or codes i 0) ≡ Some x → new ≡ shape_of n x)
     → ((x : Tree) (xs : List Tree) → tree (get_or codes i 0) ≡ Some x → count_of new Left ≡ length (options x Left) → length xs ≡ n → Stand tree codes xs → Stand tree codes' (xs ++ options x Left))
     → ((x : Tree) (xs : List Tree) → tree (get_or codes i 0) ≡ Some x → count_of new Right ≡ length (options x Right) → length xs ≡ n + count_of new Left → Stand tree codes' xs → Stand tree codes'' (xs ++ options x Right))
-    → Growing tree t (i + 1) (n + count_of new Left + count_of new Right) codes'' (set rows i new)
-grown_step tree t i n codes codes' codes'' rows new lt room old answer left right =
+    → Growing tree t (i + 1) to codes'' (set rows i new)
+grown_step tree t i n to codes codes' codes'' rows new lt room found old answer left right =
     let x = get_or (grown t i) i none in
     let next = next_row tree t i n codes rows new lt old answer in
     let in_tree : first t i ≤ size t = within t i (omega (arith, next.here)) in
@@ -141,30 +139,11 @@ grown_step tree t i n codes codes' codes'' rows new lt room old answer left righ
     let all : (grown t i ++ options x Left) ++ options x Right ≡ grown t (suc i) = append_assoc (grown t i) (options x Left) (options x Right) ∙ sym (grown_next t i) in
     let up : suc i ≡ i + 1 = omega arith in
     record {
-      begun = omega (arith, old.begun);
-      there = subst (λ j. n + count_of new Left + count_of new Right ≡ first t j) up next.wide;
+      begun = omega (arith, found, old.begun);
+      there = found ∙ subst (λ j. n + count_of new Left + count_of new Right ≡ first t j) up next.wide;
       standing = subst (λ j. Stand tree codes'' (grown t j)) up (subst (λ xs. Stand tree codes'' xs) all both);
       done = one_more t i n rows new x room (kept t i i (omega (arith, next.here)) next.here) old.there next.shape old.done;
     }
-
--- one row done that is not open: its shape is written, and no positions are found after it
-shut_count : (new : Shape) → ((x : Fork) → new ≡ Open x → ⊥) → (s : Side) → 0 ≡ count_of new s
-shut_count Unused shut s = refl
-shut_count (Ended v) shut s = refl
-shut_count (Open x) shut s = absurd (shut x refl)
-
-pub grown_shut : (tree : ℕ → Option Tree) (t : Tree) (i n : ℕ) (codes : List ℕ) (rows : List Shape) (new : Shape)
-    → i < n → i < length rows → Growing tree t i n codes rows
-    → ((x : Tree) → tree (get_or codes i 0) ≡ Some x → new ≡ shape_of n x)
-    → ((x : Fork) → new ≡ Open x → ⊥)
-    → Growing tree t (i + 1) n codes (set rows i new)
-grown_shut tree t i n codes rows new lt room old answer shut =
-    let same : n + count_of new Left + count_of new Right ≡ n = omega (arith, shut_count new shut Left, shut_count new shut Right) in
-    let still : (s : Side) (x : Tree) (xs : List Tree) → count_of new s ≡ length (options x s) → Stand tree codes xs → Stand tree codes (xs ++ options x s) =
-    λ s x xs many h. subst (λ l. Stand tree codes l) (sym (append-nil xs) ∙ ap (λ l. xs ++ l) (sym (nil_from_length (options x s) (sym (shut_count new shut s ∙ many))))) h in
-    subst (λ m. Growing tree t (i + 1) m codes (set rows i new)) same
-    (grown_step tree t i n codes codes codes rows new lt room old answer
-    (λ x xs is many wide h. still Left x xs many h) (λ x xs is many wide h. still Right x xs many h))
 
 -- more rows than are free: the tree has more positions
 pub grown_over : (tree : ℕ → Option Tree) (t : Tree) (i n free : ℕ) (codes : List ℕ) (rows : List Shape) (new : Shape)

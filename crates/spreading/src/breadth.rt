@@ -62,17 +62,15 @@ pub fn spread<R: RuleSet>(rules: &R, code: u32, free: &mut [Shape]) -> Option<us
         }
         let here = codes[i];
         let shape = shape_of(rules, here, n as u16);
-        *row = shape;
-        if let Shape::Open(fork) = shape {
-            let rights = n + fork.count(Side::Left);
-            let end = rights + fork.count(Side::Right);
-            if room < end {
-                return None;
-            }
-            append(rules, here, Side::Left, &mut codes[n..rights]);
-            append(rules, here, Side::Right, &mut codes[rights..end]);
-            n = end;
+        let rights = n + shape.count(Side::Left);
+        let end = rights + shape.count(Side::Right);
+        if room < end {
+            return None;
         }
+        append(rules, here, Side::Left, &mut codes[n..rights]);
+        append(rules, here, Side::Right, &mut codes[rights..end]);
+        n = end;
+        *row = shape;
     }
     Some(n)
 }
