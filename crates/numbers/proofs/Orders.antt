@@ -1,10 +1,11 @@
 -- Texts of numbers stand in the order of their numbers.
-use Rattle.std.proofs.Common.{◌≡◌, ℕ, ◌+◌, ◌-◌, ◌*◌, ◌<◌, ◌≤◌, Bool, true, false, cond, ◌&&◌, ◌||◌, eqb, ltb, ◌⊎◌, List, [], ◌∷◌, length, Option, Some, None, sym, refl, ap, ◌∙◌, subst, inl, inr, arith}
+use Rattle.std.proofs.Common.{◌≡◌, ℕ, ◌+◌, ◌-◌, ◌*◌, ◌<◌, ◌≤◌, Bool, true, false, cond, ◌&&◌, ◌||◌, eqb, ltb, ◌⊎◌, List, [], ◌∷◌, length, Some, None, sym, refl, ap, ◌∙◌, subst, inl, inr, arith}
 use Rattle.std.proofs.lemmas.Bool.{cases_order, lt-ltb, le-ltb, eqb-true, eqb-false, ne_eqb, eq-eqb}
-use Rattle.std.specs.Ordering.{is_some_and, is_lt, nat_cmp, partial_ordering_then}
+use Rattle.std.specs.Cmp.{Some-then}
+use Rattle.std.specs.Ordering.{is_some_and, is_lt, nat_cmp, ordering_then, partial_ordering_then}
 use Rattle.std.specs.declared.cmp.Ordering.TheVariants.{Less, Equal, Greater}
 use Rattle.std.specs.declared.cmp.Ordering.{Ordering}
-use Rattle.std.specs.Cmp.Lexicographic.{slice_partial_cmp}
+use Rattle.std.specs.Cmp.Lexicographic.{slice_cmp, slice_partial_cmp, lists_agrees}
 use Rattle.numbers.specs.Numbers.{digit, after, natural, lower, less_text}
 use Rattle.numbers.specs.Laws.{Ordered}
 use Rattle.numbers.proofs.Written.{none_some, digit_true}
@@ -85,18 +86,22 @@ ordered xs ys m n e f = go (cases_order (length xs) (length ys))
     go (inr (inr q)) = second (length xs) (length ys) (lower xs ys) q ∙ sym (le-ltb m n (let k = shorter_less ys xs n m f e q in omega arith))
 
 -- what the library says of two pairs, by what it says of their seconds where their firsts are the same
-then_first : (a b : Bool) (o : Option Ordering) (l : Bool) → (b ≡ true → is_some_and is_lt o ≡ l) → is_some_and is_lt (partial_ordering_then (Some (cond a Less (cond b Equal Greater))) o) ≡ (a || (b && l))
+then_first : (a b : Bool) (o : Ordering) (l : Bool) → (b ≡ true → is_lt o ≡ l) → is_lt (ordering_then (cond a Less (cond b Equal Greater)) o) ≡ (a || (b && l))
 then_first true b o l h = refl
 then_first false true o l h = h refl
 then_first false false o l h = refl
 
 -- of two texts as long as one another, the lower one stands first in the library's order of lists
-lower_first : (xs ys : List ℕ) → length xs ≡ length ys → is_some_and is_lt (slice_partial_cmp (λ x y. Some (nat_cmp x y)) xs ys) ≡ lower xs ys
+lower_first : (xs ys : List ℕ) → length xs ≡ length ys → is_lt (slice_cmp nat_cmp xs ys) ≡ lower xs ys
 lower_first [] [] e = refl
 lower_first [] (y ∷ ys) e = absurd (omega arith)
 lower_first (x ∷ xs) [] e = absurd (omega arith)
-lower_first (x ∷ xs) (y ∷ ys) e = then_first (ltb x y) (eqb x y) (slice_partial_cmp (λ x y. Some (nat_cmp x y)) xs ys) (lower xs ys) (λ h. lower_first xs ys (omega arith))
+lower_first (x ∷ xs) (y ∷ ys) e = then_first (ltb x y) (eqb x y) (slice_cmp nat_cmp xs ys) (lower xs ys) (λ h. lower_first xs ys (omega arith))
 
 -- the shorter text, or the lower of two as long, stands first in the library's order of pairs
+pub lower_is_before : (xs ys : List ℕ) → is_lt (ordering_then (nat_cmp (length xs) (length ys)) (slice_cmp nat_cmp xs ys)) ≡ less_text xs ys
+lower_is_before xs ys = then_first (ltb (length xs) (length ys)) (eqb (length xs) (length ys)) (slice_cmp nat_cmp xs ys) (lower xs ys) (λ h. lower_first xs ys (eqb-true (length xs) (length ys) h))
+
+-- and by `<` as by `cmp`
 pub lower_is_less : (xs ys : List ℕ) → is_some_and is_lt (partial_ordering_then (Some (nat_cmp (length xs) (length ys))) (slice_partial_cmp (λ x y. Some (nat_cmp x y)) xs ys)) ≡ less_text xs ys
-lower_is_less xs ys = then_first (ltb (length xs) (length ys)) (eqb (length xs) (length ys)) (slice_partial_cmp (λ x y. Some (nat_cmp x y)) xs ys) (lower xs ys) (λ h. lower_first xs ys (eqb-true (length xs) (length ys) h))
+lower_is_less xs ys = ap (λ o. is_some_and is_lt (partial_ordering_then (Some (nat_cmp (length xs) (length ys))) o)) (lists_agrees {R = nat_cmp} (λ x y. refl) xs ys) ∙ ap (is_some_and is_lt) (Some-then (nat_cmp (length xs) (length ys)) (slice_cmp nat_cmp xs ys)) ∙ lower_is_before xs ys

@@ -14,7 +14,7 @@ pub use text::Text;
 pub fn is_less(a: &[u8], b: &[u8]) -> bool
     ensures { result ≡ less_text a.now b.now }
 {
-    (a.len(), a) < (b.len(), b)
+    (a.len(), a).cmp(&(b.len(), b)).is_lt()
 }
 
 // A number has exactly one text, and texts of numbers stand in the order of their numbers.
