@@ -36,8 +36,10 @@ impl<'b> Present<'b> {
     pub(crate) fn here(&self, part: usize) -> Option<Position<'b>>
         ensures { Here self.now part result }
     {
-        let row = *self.rows.get(part)?;
-        self.bank.find(part as u8, row)
+        if part >= self.bank.parts() as usize {
+            return None;
+        }
+        Some(self.bank.position(part as u8, self.rows[part]))
     }
 
     // The mean of a part; 0 where there is no such part.

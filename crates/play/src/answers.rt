@@ -1,6 +1,6 @@
-ghost use Rattle.std.specs.Prelude.{◌≡◌, ◌^◌, ◌<◌, ◌≤◌, length, pos, neg_ℤ, ◌≤ℤ◌};
+ghost use Rattle.std.specs.Prelude.{◌≡◌, ◌^◌, ◌<◌, ◌≤◌, length, pos, neg_ℤ, ◌≤ℤ◌, unwrap_or};
 ghost use Rattle.encoding.specs.Columns.{part_limit};
-ghost use Rattle.play.specs.Answers.{sum_z, bracket_by, advised_by, FloorIs, BracketIs, PartIs, BestOption};
+ghost use Rattle.play.specs.Answers.{sum_z, floor_by, bracket_by, bracket_to, advised_by, FloorIs, BracketIs, PartIs, BestOption};
 
 use crate::leads::Lead;
 use crate::record::Play;
@@ -35,7 +35,8 @@ impl Play {
     // `gain` is what the far wall of a pending part has above its near wall, or 0 without any.
     pub fn floor(&self, nears: &[i32], gain: i32) -> i64
         requires { length nears.now ≤ part_limit }
-        ensures { FloorIs self.now nears.now gain result }
+        ensures told { result ≡ floor_by self.now.turn (sum_z nears.now) gain self.now.ambient }
+        ensures floor { FloorIs self.now nears.now gain result }
     {
         let walls = sum(nears);
         match self.turn {
@@ -49,7 +50,8 @@ impl Play {
     // part, and `hottest` is their greatest temperature.
     pub fn bracket(&self, side: Side, means: &[i32], hottest: Option<u32>) -> (i64, i64)
         requires { length means.now ≤ part_limit }
-        ensures { BracketIs self.now side means.now hottest (result.0, result.1) }
+        ensures told { (result.0, result.1) ≡ bracket_to self.now.turn side (sum_z means.now) (unwrap_or hottest 0) }
+        ensures bracket { BracketIs self.now side means.now hottest (result.0, result.1) }
     {
         let mean = sum(means);
         let heat = hottest.unwrap_or(0);
@@ -62,7 +64,8 @@ impl Play {
 
     // The part to move in: the pending one, or else the hottest.
     pub fn advised_part(&self, hottest: Option<Lead>) -> Result<usize, Refusal>
-        ensures { PartIs self.now hottest result }
+        ensures told { result ≡ advised_by self.now.turn self.now.pending hottest }
+        ensures part { PartIs self.now hottest result }
     {
         match self.turn {
             Turn::Ours => self

@@ -18,7 +18,7 @@ returns-in_err-part c =
     let ts = trees g.bank.now in
     let n = c.in_err-part.field-0.0 in
     let hottest = subst (λ w. HottestOf (standing w) c.hottest.result) c.present-present.ensures c.hottest.ensures in
-    let refused = advice_refused ts g.side g.play g.told c.hottest.result n c.in_err-part.ensures hottest in
+    let refused = advice_refused ts g.side g.play g.told c.hottest.result n c.in_err-part.ensures.part hottest in
     let p = err_from_is_err_and c.from_residual.result c.from_residual.ensures.1 in
     rw (p.1, p.2) (record { answer = refused; promise = advice_told ts g.side g.play g.told (Err n) refused })
 
@@ -28,7 +28,7 @@ unwrap-at-requires c =
     let p = c.in_ok-part.part in
     let hottest = subst (λ w. HottestOf (standing w) c.hottest.result) c.present-present.ensures c.hottest.ensures in
     let here = subst (λ w. Here w p c.here.result) c.present-present.ensures c.here.ensures in
-    here_some (parts_now g) p c.here.result (advice_there (trees g.bank.now) g.side g.play g.told c.hottest.result p c.in_ok-part.ensures hottest) here
+    here_some (parts_now g) p c.here.result (advice_there (trees g.bank.now) g.side g.play g.told c.hottest.result p c.in_ok-part.ensures.part hottest) here
 
 pub best-requires : goal.best-requires
 best-requires c =
@@ -37,7 +37,7 @@ best-requires c =
     let hottest = subst (λ w. HottestOf (standing w) c.hottest.result) c.present-present.ensures c.hottest.ensures in
     let here = subst (λ w. Here w p c.here.result) c.present-present.ensures c.here.ensures in
     let at = subst (Here (parts_now g) p) c.unwrap-at.ensures here in
-    let some = advice_options (trees g.bank.now) g.side g.play g.told c.hottest.result p c.in_ok-part.ensures hottest _ at.tree in
+    let some = advice_options (trees g.bank.now) g.side g.play g.told c.hottest.result p c.in_ok-part.ensures.part hottest _ at.tree in
     subst (λ (v : View). 0 < length (options (position_of c.unwrap-at.result) v.side)) (sym c.view.ensures) some
 
 pub returns : goal.returns
@@ -50,5 +50,5 @@ returns c =
     let here = subst (λ w. Here w p c.here.result) c.present-present.ensures c.here.ensures in
     let at = subst (Here (parts_now g) p) c.unwrap-at.ensures here in
     let best = subst (λ (v : View). First Any (near v.side v.t) (options (position_of c.unwrap-at.result) v.side) k) c.view.ensures c.best.ensures in
-    let advised = advice_is ts g.side g.play g.told c.hottest.result p c.in_ok-part.ensures hottest k (position_of c.unwrap-at.result) at.tree best in
+    let advised = advice_is ts g.side g.play g.told c.hottest.result p c.in_ok-part.ensures.part hottest k (position_of c.unwrap-at.result) at.tree best in
     record { answer = advised; promise = advice_told ts g.side g.play g.told (Ok (p, k)) advised }

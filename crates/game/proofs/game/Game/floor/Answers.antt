@@ -19,5 +19,5 @@ returns c =
     let seen = subst (λ w. Tells (near c.view.result.side c.view.result.t) w c.nears-nears.result) c.present.ensures c.nears-nears.ensures in
     let tells = subst (λ (v : View). Tells (near v.side v.t) (parts_now g) c.nears-nears.result) c.view.ensures seen in
     let nears = ap (λ n. take n c.nears-nears.result) c.parts-parts.ensures ∙ tells in
-    let sure = floor_answered_lem (trees g.bank.now) g.side y g.told (take c.parts-parts.result c.nears-nears.result) (to_z w32 (of_z w32 c.gain.result)) v (to_z w64 (of_z w64 v)) e c.floor.ensures nears gain in
+    let sure = floor_answered_lem (trees g.bank.now) g.side y g.told (take c.parts-parts.result c.nears-nears.result) (to_z w32 (of_z w32 c.gain.result)) v (to_z w64 (of_z w64 v)) e c.floor.ensures.floor nears gain in
     record { answer = sure.0; promise = sure.1 }

@@ -1,15 +1,20 @@
-use Rattle.std.proofs.Common.{sym, subst, arith}
+use Rattle.std.proofs.Common.{◌<◌, length, Some, refl, arith}
 use Rattle.bank.specs.Contents.{trees}
-use Rattle.game.specs.Presents.{Here}
 use Rattle.game.proofs.Presents.{present_past, found_here}
 use Rattle.game.proofs.present.Present.here.Goals as goal
 
-pub returns-in_err-row : goal.returns-in_err-row
-returns-in_err-row c =
+pub returns-then-part-parts : goal.returns-then-part-parts
+returns-then-part-parts c =
     let w = c.args.self.now in
-    subst (Here w c.args.part) (sym c.from_residual.ensures) (present_past (trees w.bank.now) w.rows c.args.part (omega (arith, w.enough, c.in_err-row.ensures.lookup.3)))
+    present_past (trees w.bank.now) w.rows c.args.part (omega (arith, c.parts.ensures))
+
+pub position-requires : goal.position-requires
+position-requires c =
+    let w = c.args.self.now in
+    let l : c.args.part < length (trees w.bank.now) = omega (arith, c.parts.ensures) in
+    record { part = l; line = w.on_rows c.args.part l }
 
 pub returns : goal.returns
 returns c =
-    let row = c.in_ok-row.ensures.lookup.3 in
-    found_here c.args.self.now c.args.part c.in_ok-row.field-0.now c.find.result row.0 (sym (row.1 0)) c.find.ensures
+    let w = c.args.self.now in
+    found_here w c.args.part _ (Some c.position.result) (omega (arith, w.enough, c.parts.ensures)) refl c.position.ensures
