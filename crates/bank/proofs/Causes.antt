@@ -15,7 +15,7 @@ use Rattle.thermographs.specs.Figures.{corner_limit, strip_of}
 use Rattle.encoding.specs.Columns.{part_limit, Seatable}
 use Rattle.stories.specs.Seatings.{cause, corner_count, corner_counts}
 use Rattle.bank.specs.Drafts.{lacks}
-use Rattle.bank.specs.Placing.{misfit_by, cause_by}
+use Rattle.bank.proofs.Placing.{misfit_by, cause_by}
 use Rattle.bank.proofs.Counts.{length_strip_of}
 
 past_rows : (r c : ℕ) (t : Tree) → size t ≤ r

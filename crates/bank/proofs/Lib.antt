@@ -1,3 +1,4 @@
+pub mod Placing
 pub mod Counts
 pub mod Causes
 pub mod Drafting

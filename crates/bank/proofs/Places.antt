@@ -17,7 +17,7 @@ use Rattle.encoding.proofs.Holding.{held_none, held_more}
 use Rattle.bank.specs.Held.{part_figures, row_starts, corner_starts, Held, Within}
 use Rattle.bank.specs.Parts.{nothing}
 use Rattle.bank.specs.Drafts.{lacks, onto, FillInto}
-use Rattle.bank.specs.Placing.{cause_by, Judged, Placed}
+use Rattle.bank.proofs.Placing.{cause_by, Judged, Placed}
 use Rattle.bank.specs.declared.columns.Columns.{Columns}
 use Rattle.bank.specs.declared.columns.Extent.{Extent}
 use Rattle.bank.proofs.Causes.{lacks_misfit, cause_misfit}

@@ -9,7 +9,7 @@ use Rattle.encoding.proofs.Contents.{content, content_is, lists_set}
 use Rattle.encoding.proofs.Holding.{held_used}
 use Rattle.stories.specs.Seatings.{cause, corner_counts, seat}
 use Rattle.bank.specs.Held.{row_starts, Held, Filled}
-use Rattle.bank.specs.Placing.{cause_by, Judged, Placed}
+use Rattle.bank.proofs.Placing.{cause_by, Judged, Placed}
 use Rattle.bank.specs.Contents.{held_once, trees}
 use Rattle.bank.specs.Seats.{Gains, Seated}
 use Rattle.bank.specs.declared.bank.Bank.{Bank}

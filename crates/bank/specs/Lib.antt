@@ -1,7 +1,6 @@
 pub mod Held
 pub mod Parts
 pub mod Drafts
-pub mod Placing
 pub mod Contents
 pub mod Seats
 pub mod Diagrams

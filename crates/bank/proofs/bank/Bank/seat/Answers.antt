@@ -5,7 +5,7 @@ use Rattle.terms.specs.declared.fault.Refusal.TheVariants.{PartsFull, UnknownCod
 use Rattle.theory.specs.Trees.{Tree}
 use Rattle.spreading.proofs.Taken.{known_tree}
 use Rattle.bank.specs.Held.{Held, Within}
-use Rattle.bank.specs.Placing.{Judged, Placed}
+use Rattle.bank.proofs.Placing.{Judged, Placed}
 use Rattle.bank.specs.declared.columns.Columns.{Columns}
 use Rattle.bank.proofs.Places.{Full, FreeFill, after_fill, after_place, refused, unchanged, accepted, gained, within_after}
 use Rattle.bank.proofs.Trees.{still_filled, seated_by_trees}
