@@ -1,9 +1,9 @@
 -- The turns of a loop of which only the success is kept.
 use Rattle.std.proofs.Common.{◌≡◌, ℕ, zero, suc, ◌+◌, ◌-◌, ◌<◌, List, ◌∷◌, length, Ok, Err, Result, sym, refl, ap, ◌∙◌, arith}
 use Rattle.terms.specs.declared.fault.Fault.{Fault}
-use Rattle.lines.specs.Reading.{State, Reading, then, times}
+use Rattle.lines.specs.Reading.{State, Reading, done, then, times}
 use Rattle.lines.specs.Reading.{◌>>=◌}
-use Rattle.lines.proofs.Fields.{ok_same, err_ok}
+use Rattle.lines.proofs.Fields.{ok_same, err_ok, err_same}
 use Rattle.lines.proofs.Laws.{then_ok}
 use Rattle.job.specs.Account.{passed, counted}
 
@@ -64,3 +64,13 @@ module _ {A : Type 0} (p : Reading A) (n : ℕ) (s₀ : State) where
       go : (r : Result (A × State) Fault) → r ≡ p s → Ok (tt, t) ≡ then {B = Unit {0} × State} r (λ q. Ok (tt, q.1)) → passed (times (n - (i + 1)) p) t ≡ passed (times n p) s₀
       go (Ok (a, u)) q e = let w : t ≡ u = ap (λ x. x.1) (ok_same e) in pass_more p n s₀ i s t a h (ap (λ v. Ok (a, v)) w ∙ q) inv
       go (Err d) q e = err_ok (sym e)
+
+  pub forget_stops : (i : ℕ) (s : State) (d : Fault) → i < n → Err d ≡ passed p s → passed (times (n - i) p) s ≡ passed (times n p) s₀ → Err d ≡ passed (times n p) s₀
+  forget_stops i s d h e inv = go (p s) refl e
+    where
+      go : (r : Result (A × State) Fault) → r ≡ p s → Err d ≡ then {B = Unit {0} × State} r (λ q. Ok (tt, q.1)) → Err d ≡ passed (times n p) s₀
+      go (Ok q) w e = err_ok e
+      go (Err c) w e =
+          let k : n - i ≡ suc (n - (i + 1)) = omega arith in
+          let same : d ≡ c = err_same e in
+          bind_stops p (λ a. ◌>>=◌ (times (n - (i + 1)) p) (λ more. done (a ∷ more))) s d (ap Err same ∙ w) ∙ (ap (λ m. passed (times m p) s) (sym k) ∙ inv)

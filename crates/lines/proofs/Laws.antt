@@ -174,6 +174,22 @@ done_reads x = record {
 pub entry_stops : {A : Type 0} (k : Key) (value : List ℕ → ℕ → Result A Fault) (s : State) (e : Fault) → Err e ≡ field k s → Err e ≡ entry k value s
 entry_stops k value s e f = ap (λ q. then q (λ q. then (value q.0.0 q.0.1) (λ a. Ok (a, q.1)))) f
 
+-- one thing more on a list that was begun
+onto_more : {A : Type 0} (xs : List A) (a : A) (r : Result (List A × State) Fault) → onto xs (then r (λ z. Ok (a ∷ z.0, z.1))) ≡ onto (xs ++ (a ∷ [])) r
+onto_more xs a (Ok q) = ap (λ ys. Ok (ys, q.1)) (sym (append_assoc xs (a ∷ []) q.0))
+onto_more xs a (Err d) = refl
+
+-- the turns of a loop that reads one thing after another
+pub times_more : {A : Type 0} (xs : List A) (k : ℕ) (p : Reading A) (s : State) (a : A) (t : State) → Ok (a, t) ≡ p s → onto xs (times (suc k) p s) ≡ onto (xs ++ (a ∷ [])) (times k p t)
+times_more xs k p s a t e = ap (λ r. onto xs (then r (λ q. then (times k p q.1) (λ z. Ok (q.0 ∷ z.0, z.1))))) (sym e) ∙ onto_more xs a (times k p t)
+
+pub times_first : {A : Type 0} (n : ℕ) (p : Reading A) (s : State) → onto [] (times n p s) ≡ times n p s
+times_first {A} n p s = same (times n p s)
+  where
+    same : (r : Result (List A × State) Fault) → onto [] r ≡ r
+    same (Ok q) = refl
+    same (Err d) = refl
+
 -- a step of a longer reading
 pub bind_run : {A B : Type 0} (p : Reading A) (f : A → Reading B) (s : State) (a : A) (t : State) → Ok (a, t) ≡ p s → f a t ≡ ◌>>=◌ p f s
 bind_run p f s a t e = ap (λ r. then r (λ q. f q.0 q.1)) e
@@ -197,6 +213,28 @@ map_reads c p w G v H same to from h = record {
         y.0,
         ap (λ z. ◌>>=◌ p (λ a. done (c a)) (at (z ++ r) n)) (ap v k.1 ∙ same k.0)
             ∙ (then_run _ _ _ y.1 ∙ ap (λ z. Ok (z, at r y.0)) (sym k.1)),
+      );
+}
+
+-- of two things, one after the other
+pub map2_reads : {A B C : Type 0} (c : A → B → C) (p : Reading A) (w : A → List ℕ) (G : A → Type 0) (q : Reading B) (u : B → List ℕ) (F : B → Type 0) (v : C → List ℕ) (H : C → Type 0) → ((a : A) (b : B) → v (c a b) ≡ w a ++ u b) → ((a : A) (b : B) → G a → F b → H (c a b)) → ((x : C) → H x → (a : A) × (b : B) × (x ≡ c a b) × G a × F b) → Reads p w G → Reads q u F → Reads (◌>>=◌ p (λ a. ◌>>=◌ q (λ b. done (c a b)))) v H
+map2_reads c p w G q u F v H same to from h k = record {
+  sound = λ s x t e.
+      let f = then_ok (p s) _ _ e in
+      let g = then_ok (q f.0.1) _ _ f.2 in
+      let z = ok_same g.2 in
+      let y = h.sound s f.0.0 f.0.1 f.1 in
+      let y' = k.sound f.0.1 g.0.0 g.0.1 g.1 in (
+        subst H (ap (λ r. r.0) z) (to f.0.0 g.0.0 y.0 y'.0),
+        y.1 ∙ (ap (λ r. w f.0.0 ++ r) y'.1 ∙ (sym (append_assoc (w f.0.0) (u g.0.0) g.0.1.rest) ∙ (ap (λ r. r ++ g.0.1.rest) (sym (same f.0.0 g.0.0)) ∙ ap (λ r. v r.0 ++ r.1.rest) z))),
+      );
+  complete = λ x r n g.
+      let m = from x g in
+      let y = h.complete m.0 (u m.1 ++ r) n m.3 in
+      let y' = k.complete m.1 r y.0 m.4 in (
+        y'.0,
+        ap (λ z. ◌>>=◌ p (λ a. ◌>>=◌ q (λ b. done (c a b))) (at z n)) (ap (λ z. z ++ r) (ap v m.2 ∙ same m.0 m.1) ∙ append_assoc (w m.0) (u m.1) r)
+            ∙ (then_run _ _ _ y.1 ∙ (then_run _ _ _ y'.1 ∙ ap (λ z. Ok (z, at r y'.0)) (sym m.2))),
       );
 }
 
@@ -273,11 +311,7 @@ pub walk_none : {P A : Type 0} (xs : List A) (p : P → Reading A) (step : P →
 walk_none xs p step i s = ap (λ ys. Ok (ys, s)) (append-nil xs)
 
 pub walk_more : {P A : Type 0} (xs : List A) (k : ℕ) (p : P → Reading A) (step : P → A → P) (i : P) (s : State) (a : A) (t : State) → Ok (a, t) ≡ p i s → onto xs (walk p step i (suc k) s) ≡ onto (xs ++ (a ∷ [])) (walk p step (step i a) k t)
-walk_more {P} {A} xs k p step i s a t e = ap (λ r. onto xs (then r (λ q. then (walk p step (step i q.0) k q.1) (λ z. Ok (q.0 ∷ z.0, z.1))))) (sym e) ∙ more (walk p step (step i a) k t)
-  where
-    more : (r : Result (List A × State) Fault) → onto xs (then r (λ z. Ok (a ∷ z.0, z.1))) ≡ onto (xs ++ (a ∷ [])) r
-    more (Ok q) = ap (λ ys. Ok (ys, q.1)) (sym (append_assoc xs (a ∷ []) q.0))
-    more (Err d) = refl
+walk_more xs k p step i s a t e = ap (λ r. onto xs (then r (λ q. then (walk p step (step i q.0) k q.1) (λ z. Ok (q.0 ∷ z.0, z.1))))) (sym e) ∙ onto_more xs a (walk p step (step i a) k t)
 
 pub walk_stops : {P A : Type 0} (xs : List A) (k : ℕ) (p : P → Reading A) (step : P → A → P) (i : P) (s : State) (d : Fault) → Err d ≡ p i s → onto xs (walk p step i (suc k) s) ≡ Err d
 walk_stops xs k p step i s d e = ap (λ r. onto xs (then r (λ q. then (walk p step (step i q.0) k q.1) (λ z. Ok (q.0 ∷ z.0, z.1))))) (sym e)

@@ -1,13 +1,19 @@
 -- Edges by the texts of their numbers, and a list of them piece by piece.
-use Rattle.std.proofs.Common.{◌≡◌, ℕ, ◌<◌, min, true, false, cond, not, ◌&&◌, ◌||◌, eqb, ltb, leb, ◌⊎◌, List, is_some, Some, None, Ok, Option, sym, refl, ap, ◌∙◌, inl, inr, arith}
+use Rattle.std.proofs.Common.{◌≡◌, ℕ, ◌<◌, min, Bool, true, false, cond, not, ◌&&◌, ◌||◌, eqb, ltb, leb, ◌⊎◌, List, ◌∷◌, is_some, Some, None, Ok, Err, Option, sym, refl, ap, ◌∙◌, inl, inr, arith}
 use Rattle.std.proofs.lemmas.Bool.{false≢true, le-leb, lt-leb, ltb-true, ltb-false, lt-ltb, le-ltb, eq-eqb, ne_eqb, cond-true, cond-false, cases_order}
+use Rattle.terms.specs.declared.fault.Fault.{Fault}
+use Rattle.terms.specs.declared.fault.Refusal.TheVariants.{WrongForm}
+use Rattle.terms.specs.Refusals.{fault}
 use Rattle.numbers.specs.Numbers.{natural, capped, judged, less_text}
+use Rattle.numbers.proofs.Written.{none_some}
 use Rattle.numbers.proofs.Orders.{ordered}
 use Rattle.lines.specs.Reading.{cut}
+use Rattle.lines.specs.Commas.{pieces, all_of, both}
+use Rattle.lines.proofs.Splits.{some_same}
 use Rattle.lines.proofs.Fields.{ok_same, err_ok}
 use Rattle.map_text.specs.declared.pair.Pair.{Pair}
-use Rattle.map_text.specs.Maps.{Edge, edge, pair_of, ends, edge_of, before_edge}
-use Rattle.map_text.specs.Pairs.{said, before_text, last_said, after_edge}
+use Rattle.map_text.specs.Maps.{Edge, edge, pair_of, ends, edge_of, before_edge, rising}
+use Rattle.map_text.specs.Pairs.{said, before_text, last_said, after_edge, goes_on, formed}
 use Rattle.map_text.proofs.Maps.{pair_some}
 
 -- a number that was read, as the code holds it
@@ -74,3 +80,40 @@ next_right last p q is t = ap (λ o. after_edge (last_said o) (said q)) is ∙ (
 
 pub next_first : (last : Option Pair) (q : Pair) → last ≡ None → after_edge (last_said last) (said q) ≡ said q
 next_first last q is = let f = edge_said q in ap (λ o. after_edge (last_said o) (said q)) is ∙ (ap (after_edge None) f.1 ∙ sym f.1)
+
+-- the turns of the loop over the pieces
+goes_more : (o : Option Edge) (l : List ℕ) (ls : List (List ℕ)) (e : Edge) → after_edge o (edge_of l) ≡ Some e → goes_on o (all_of edge_of (l ∷ ls)) ≡ goes_on (Some e) (all_of edge_of ls)
+goes_more o l ls e q = go o (edge_of l) (all_of edge_of ls) q
+  where
+    next : (d f : Edge) (p : Option (List Edge)) (t : Bool) → before_edge d f ≡ t → cond t (Some f) None ≡ Some e → goes_on (Some d) (both (Some f) p) ≡ goes_on (Some e) p
+    next d f None t b q = refl
+    next d f (Some es) true b q = ap (λ t. t && rising (f ∷ es)) b ∙ ap (λ g. rising (g ∷ es)) (some_same q)
+    next d f (Some es) false b q = none_some q
+
+    go : (o k : Option Edge) (p : Option (List Edge)) → after_edge o k ≡ Some e → goes_on o (both k p) ≡ goes_on (Some e) p
+    go None None p q = none_some q
+    go (Some d) None p q = none_some q
+    go None (Some f) None q = refl
+    go None (Some f) (Some es) q = ap (λ g. rising (g ∷ es)) (some_same q)
+    go (Some d) (Some f) p q = next d f p (before_edge d f) refl q
+
+goes_stops : (o : Option Edge) (l : List ℕ) (ls : List (List ℕ)) → after_edge o (edge_of l) ≡ None → goes_on o (all_of edge_of (l ∷ ls)) ≡ false
+goes_stops o l ls q = go o (edge_of l) (all_of edge_of ls) q
+  where
+    next : (d f : Edge) (p : Option (List Edge)) (t : Bool) → before_edge d f ≡ t → cond t (Some f) None ≡ None → goes_on (Some d) (both (Some f) p) ≡ false
+    next d f None t b q = refl
+    next d f (Some es) true b q = none_some (sym q)
+    next d f (Some es) false b q = ap (λ t. t && rising (f ∷ es)) b
+
+    go : (o k : Option Edge) (p : Option (List Edge)) → after_edge o k ≡ None → goes_on o (both k p) ≡ false
+    go None None p q = refl
+    go (Some d) None p q = refl
+    go None (Some f) p q = none_some (sym q)
+    go (Some d) (Some f) p q = next d f p (before_edge d f) refl q
+
+module _ (o : Option Edge) (v w l : List ℕ) (ls : List (List ℕ)) (inv : goes_on o (all_of edge_of (pieces w)) ≡ goes_on None (all_of edge_of (pieces v))) (c : pieces w ≡ l ∷ ls) where
+  pub form_more : (e : Edge) → after_edge o (edge_of l) ≡ Some e → goes_on (Some e) (all_of edge_of ls) ≡ goes_on None (all_of edge_of (pieces v))
+  form_more e q = sym (goes_more o l ls e q) ∙ (ap (λ k. goes_on o (all_of edge_of k)) (sym c) ∙ inv)
+
+  pub form_stops : (n : ℕ) (d : Fault) → (after_edge o (edge_of l) ≡ None) × (d ≡ fault WrongForm n) → Err d ≡ formed (goes_on None (all_of edge_of (pieces v))) n
+  form_stops n d q = ap Err q.1 ∙ ap (λ t. formed t n) (sym (goes_stops o l ls q.0) ∙ (ap (λ k. goes_on o (all_of edge_of k)) (sym c) ∙ inv))

@@ -1,11 +1,12 @@
 -- The numbers that pass a test: how many, and which stands where.
-use Rattle.std.proofs.Common.{◌≡◌, ℕ, zero, suc, ◌+◌, ◌<◌, ◌≤◌, Bool, true, false, cond, ◌⊎◌, List, [], ◌∷◌, length, sym, refl, ap, ◌∙◌, inl, inr, zero-add, arith}
+use Rattle.std.proofs.Common.{◌≡◌, ℕ, zero, suc, ◌+◌, ◌-◌, ◌<◌, ◌≤◌, Bool, true, false, cond, ◌⊎◌, List, [], ◌∷◌, length, Some, sym, refl, ap, ◌∙◌, ap₂, inl, inr, zero-add, arith}
 use Rattle.std.specs.List.{AllByRecursion, range_with_len}
 use Rattle.std.proofs.lemmas.List.Elements.{All-from_get_or}
 use Rattle.std.proofs.lemmas.List.Folds.{list_any_at, list_any_none}
 use Rattle.std.proofs.lemmas.List.FromFn.{length-range_with_len, get_or-range_with_len}
 use Rattle.std.proofs.lemmas.List.Sums.{length-filter, count_by-le-length}
 use Rattle.std.proofs.lemmas.Bool.{true≢false, cases_Bool, cases_eq}
+use Rattle.theory.specs.Trees.{at}
 use Rattle.masks.specs.Masks.{members, some_below}
 
 -- the next number is in, or it is passed over
@@ -16,6 +17,16 @@ members_in p i n e = ap (λ b. cond b (i ∷ members p (i + 1) n) (members p (i 
 pub members_out : (p : ℕ → Bool) (i n : ℕ) → p i ≡ false → members p i (suc n) ≡ members p (i + 1) n
 unfolding members
 members_out p i n e = ap (λ b. cond b (i ∷ members p (i + 1) n) (members p (i + 1) n)) e
+
+-- which member stands where
+pub member_here : (p : ℕ → Bool) (i n k : ℕ) → p i ≡ true → k ≡ 0 → at (members p i (suc n)) k ≡ Some i
+member_here p i n k e z = ap₂ at (members_in p i n e) z
+
+pub member_next : (p : ℕ → Bool) (i n k : ℕ) → p i ≡ true → 0 < k → at (members p (i + 1) n) (k - 1) ≡ at (members p i (suc n)) k
+member_next p i n k e z = let b : k ≡ suc (k - 1) = omega arith in sym (ap₂ at (members_in p i n e) b)
+
+pub member_passed : (p : ℕ → Bool) (i n k : ℕ) → p i ≡ false → at (members p (i + 1) n) k ≡ at (members p i (suc n)) k
+member_passed p i n k e = sym (ap (λ l. at l k) (members_out p i n e))
 
 -- tests that agree on the range have the same members
 pub members_same : (p q : ℕ → Bool) (i n : ℕ) → ((k : ℕ) → i ≤ k → k < i + n → p k ≡ q k) → members p i n ≡ members q i n
@@ -122,3 +133,13 @@ none_below p n h k b = none_below_by (cases_Bool (p k))
 
 pub no_some : (p : ℕ → Bool) (n : ℕ) → ((k : ℕ) → k < n → p k ≡ false) → some_below p n ≡ false
 no_some p n h = list_any_none p (range_with_len 0 n) (All-from_get_or (λ k. p k ≡ false) (range_with_len 0 n) 0 (λ i l. let b : i < n = omega (arith, length-range_with_len 0 n) in ap p (get_or-range_with_len 0 n i 0 b ∙ zero-add i) ∙ h i b))
+
+-- tests that agree below n agree on whether some number passes
+pub some_same : (p q : ℕ → Bool) (n : ℕ) → ((k : ℕ) → k < n → p k ≡ q k) → some_below p n ≡ some_below q n
+some_same p q n same = some_same_by (cases_Bool (some_below p n)) (cases_Bool (some_below q n))
+  where
+    some_same_by : (some_below p n ≡ true) ⊎ (some_below p n ≡ false) → (some_below q n ≡ true) ⊎ (some_below q n ≡ false) → some_below p n ≡ some_below q n
+    some_same_by (inl a) (inl b) = a ∙ sym b
+    some_same_by (inl a) (inr b) = no_some p n (λ k h. same k h ∙ none_below q n b k h) ∙ sym b
+    some_same_by (inr a) (inl b) = a ∙ sym (no_some q n (λ k h. sym (same k h) ∙ none_below p n a k h))
+    some_same_by (inr a) (inr b) = a ∙ sym b

@@ -1,5 +1,5 @@
 -- Stops and cold positions, from the options' to the row's and from the last row up.
-use Rattle.std.proofs.Common.{◌≡◌, ℕ, zero, suc, ◌+◌, ◌-◌, ◌<◌, ◌≤◌, Bool, true, false, ◌||◌, ◌≢◌, List, [], ◌∷◌, map, length, get_or, take, drop, set, ℤ, pos, negsuc, ◌+ℤ◌, neg_ℤ, ◌≤ℤ◌, ◌<ℤ◌, unwrap_or, sym, refl, ap, ◌∙◌, subst, arith, length-append}
+use Rattle.std.proofs.Common.{◌≡◌, ℕ, zero, suc, ◌+◌, ◌-◌, ◌<◌, ◌≤◌, Bool, true, false, ◌||◌, ◌≢◌, List, [], ◌∷◌, ◌++◌, map, length, get_or, take, drop, set, ℤ, pos, negsuc, ◌+ℤ◌, neg_ℤ, ◌≤ℤ◌, ◌<ℤ◌, unwrap_or, sym, refl, ap, ◌∙◌, subst, arith, length-append}
 use lib.Signed.{lt_z}
 use Rattle.std.specs.Int.{int_max}
 use Rattle.std.specs.Cmp.{int_ranks}
@@ -7,7 +7,7 @@ use Rattle.std.specs.List.{fold, reduce}
 use Rattle.std.specs.Ordering.{int_cmp, max_by_ordering, MatchOrdering}
 use Rattle.std.specs.declared.cmp.Ordering.{Ordering}
 use Rattle.std.specs.declared.cmp.Ordering.TheVariants.{Less, Equal, Greater}
-use Rattle.std.proofs.lemmas.List.{map-set, take-map, drop-map, length-map, get_or_append_left, get_or-append-add, get_or-set_same, get_or-set_other}
+use Rattle.std.proofs.lemmas.List.{take_more, map-set, take-map, drop-map, length-map, get_or_append_left, get_or-append-add, get_or-set_same, get_or-set_other}
 use Rattle.std.proofs.lemmas.Int.{ints, clamps}
 use Rattle.std.proofs.lemmas.Bool.{or_from, or_parts}
 use Rattle.terms.specs.declared.side.Side.{Side}
@@ -70,6 +70,20 @@ best_score s (x ∷ xs) =
     let h = stop_score s x in
     let r = best_score s xs in
     (omega (arith, ints, clamps), omega (arith, ints, clamps))
+
+-- the best of one more
+best_push : (vs : List ℤ) (v : ℤ) → best_of (vs ++ (v ∷ [])) ≡ int_max (best_of vs) (neg_ℤ v)
+unfolding best_of
+best_push [] v = omega (arith, ints, clamps)
+best_push (w ∷ vs) v = let r = best_push vs v in ap (int_max (neg_ℤ w)) r ∙ omega (arith, ints, clamps)
+
+pub best_more : (vs : List ℤ) (i : ℕ) → i < length vs → best_of (take (i + 1) vs) ≡ int_max (best_of (take i vs)) (neg_ℤ (get_or vs i (pos 0)))
+best_more vs i lt = ap best_of (take_more vs i (pos 0) lt) ∙ best_push (take i vs) (get_or vs i (pos 0))
+
+-- a side's own score is a score
+pub own_score : (s : Side) (v : ℤ) → Score v → Score (own s v)
+own_score Left v h = h
+own_score Right v h = (omega (arith, ints), omega (arith, ints))
 
 -- where no option leaves less than the lowest score, it is the mover's stop
 best_forest : (F : Forest) (s : Side) → Each (λ x. Score (stop x (other s))) (trees F) → best_of (map (λ x. stop x (other s)) (trees F)) ≡ stop_f F s
